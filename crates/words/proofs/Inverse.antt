@@ -1,0 +1,137 @@
+-- The inverse of a word: "its letters read backward with case changed". It keeps irreducibility, goes through free
+-- reduction, and undoes the word on either side.
+use Prim.Native.Nat.{ℕ, suc, _+_, _-_, _<_}
+use mathlib.Core.Path.{_≡_, refl, sym, ap, _∙_}
+use mathlib.Core.List.{List, [], _∷_, _++_, map, reverse-cons, append-assoc, append-nil}
+use native.Mathlib.Omega.{arith}
+use lib.ListN.{length, getD, take, drop, take-append-drop, length-drop, length-reverse, length-map}
+use lib.Seq.{take-suc, take-at, drop-at, getD-at}
+use Rattle.words.specs.Letters.{Letters}
+use Rattle.words.specs.Words.{push, reduce, Irreducible, inverse}
+use Rattle.words.proofs.Letters.{LetterLaws, same?}
+use Rattle.words.proofs.Reduction.{push-cancel, push-keep, irreducible-next, irreducible-tail, irreducible-cons, irreducible-join, reduce-irreducible, reduce-same, reduce-left, reduce-right, reduce-pair-flip, reduce-empty-left, reduce-empty-right}
+
+module _ {A : Type 0} (G : Letters A) (L : LetterLaws G) where
+  open Letters G using (flip)
+  open LetterLaws L using (twice)
+
+  pub inverse-nil : inverse G [] ≡ []
+  unfolding inverse
+  inverse-nil = refl
+
+  pub inverse-cons : (x : A) (w : List A) → inverse G (x ∷ w) ≡ inverse G w ++ (flip x ∷ [])
+  unfolding inverse
+  inverse-cons x w = reverse-cons (flip x) (map flip w)
+
+  pub inverse-singleton : (x : A) → inverse G (x ∷ []) ≡ flip x ∷ []
+  unfolding inverse
+  inverse-singleton x = refl
+
+  pub inverse-append : (u v : List A) → inverse G (u ++ v) ≡ inverse G v ++ inverse G u
+  inverse-append [] v = rw (inverse-nil, append-nil)
+  inverse-append (x ∷ u) v = rw (inverse-cons x (u ++ v), inverse-cons x u, inverse-append u v, append-assoc)
+
+  pub inverse-snoc : (w : List A) (x : A) → inverse G (w ++ (x ∷ [])) ≡ flip x ∷ inverse G w
+  inverse-snoc w x = rw (inverse-append, inverse-singleton)
+
+  pub inverse-twice : (w : List A) → inverse G (inverse G w) ≡ w
+  inverse-twice [] = rw (inverse-nil, inverse-nil)
+  inverse-twice (x ∷ w) = rw (inverse-cons, inverse-snoc, twice, inverse-twice w)
+
+  pub inverse-length : (w : List A) → length (inverse G w) ≡ length w
+  unfolding inverse
+  inverse-length w = length-reverse (map flip w) ∙ length-map w flip
+
+  pub inverse-inj : (u v : List A) → inverse G u ≡ inverse G v → u ≡ v
+  inverse-inj u v e = sym (inverse-twice u) ∙ ap (inverse G) e ∙ inverse-twice v
+
+  pub inverse-turn : (u v : List A) → u ≡ inverse G v → v ≡ inverse G u
+  inverse-turn u v e = rw e (sym (inverse-twice v))
+
+  -- ---- the inverse and free reduction
+
+  pub inverse-irreducible : (w : List A) → Irreducible G w → Irreducible G (inverse G w)
+  inverse-irreducible [] h = rw inverse-nil tt
+  inverse-irreducible (x ∷ []) h = rw inverse-singleton tt
+  inverse-irreducible (x ∷ y ∷ w) h = rw (inverse-cons, inverse-cons, append-assoc)
+      (irreducible-join G L (inverse G w) [] (flip y) (flip x)
+      (rw inverse-cons at (inverse-irreducible (y ∷ w) (irreducible-tail G L x (y ∷ w) h)))
+      tt
+      (λ e. irreducible-next G L x y w h (sym (e ∙ twice y))))
+
+  inverse-push : (x : A) (w : List A) → Irreducible G w → reduce G (inverse G (x ∷ w)) ≡ inverse G (push G x w)
+  inverse-push x [] h = rw inverse-singleton
+  inverse-push x (y ∷ w) h = elim (same? G L y (flip x)) [
+    | yes e ↦ rw (push-cancel G L x y w e, inverse-cons, inverse-cons, append-assoc, e, reduce-pair-flip G L, append-nil)
+        (reduce-same G L (inverse G w) (inverse-irreducible w (irreducible-tail G L y w h)))
+    | no n ↦ rw (push-keep G L x y w n)
+        (reduce-same G L (inverse G (x ∷ y ∷ w)) (inverse-irreducible (x ∷ y ∷ w) (irreducible-cons G L x y w n h)))
+  ]
+
+  pub reduce-inverse : (w : List A) → reduce G (inverse G w) ≡ inverse G (reduce G w)
+  reduce-inverse [] = rw inverse-nil
+  reduce-inverse (x ∷ w) = rw (inverse-cons, reduce-left G L (inverse G w) (flip x ∷ []), reduce-inverse w, ← inverse-cons)
+      (inverse-push x (reduce G w) (reduce-irreducible G L w))
+
+  -- a word and its inverse, one after the other, come to the empty word
+  pub reduce-self-inverse : (w : List A) → reduce G (w ++ inverse G w) ≡ []
+  reduce-self-inverse [] = rw inverse-nil
+  reduce-self-inverse (x ∷ w) = rw (inverse-cons, ← append-assoc w (inverse G w) (flip x ∷ []), reduce-empty-left G L (w ++ inverse G w) (flip x ∷ []) (reduce-self-inverse w))
+      (push-cancel G L x (flip x) [] refl)
+
+  pub reduce-inverse-self : (w : List A) → reduce G (inverse G w ++ w) ≡ []
+  reduce-inverse-self w = rw inverse-twice at (reduce-self-inverse (inverse G w))
+
+  -- so the inverse takes a factor away again, on either side
+  pub reduce-undo-left : (u v : List A) → reduce G (inverse G u ++ reduce G (u ++ v)) ≡ reduce G v
+  reduce-undo-left u v = rw (← reduce-right G L, ← append-assoc)
+      (reduce-empty-left G L (inverse G u ++ u) v (reduce-inverse-self u))
+
+  pub reduce-redo-left : (u v : List A) → reduce G (u ++ reduce G (inverse G u ++ v)) ≡ reduce G v
+  reduce-redo-left u v = rw inverse-twice at (reduce-undo-left (inverse G u) v)
+
+  pub reduce-undo-right : (u v : List A) → reduce G (reduce G (u ++ v) ++ inverse G v) ≡ reduce G u
+  reduce-undo-right u v = rw (← reduce-left G L, append-assoc)
+      (reduce-empty-right G L u (v ++ inverse G v) (reduce-self-inverse v))
+
+  pub reduce-redo-right : (u v : List A) → reduce G (reduce G (u ++ inverse G v) ++ v) ≡ reduce G u
+  reduce-redo-right u v = rw inverse-twice at (reduce-undo-right u (inverse G v))
+
+  pub reduce-strip-left : (u v w : List A) → reduce G (u ++ v) ≡ reduce G (u ++ w) → reduce G v ≡ reduce G w
+  reduce-strip-left u v w e = rw e at (sym (reduce-undo-left u v)) ∙ reduce-undo-left u w
+
+  pub reduce-strip-right : (u v w : List A) → reduce G (v ++ u) ≡ reduce G (w ++ u) → reduce G v ≡ reduce G w
+  reduce-strip-right u v w e = sym (reduce-undo-right v u) ∙ ap (λ (r : List A). reduce G (r ++ inverse G u)) e ∙ reduce-undo-right w u
+
+  pub inverse-unique : (u v : List A) → reduce G (u ++ v) ≡ [] → reduce G v ≡ reduce G (inverse G u)
+  inverse-unique u v e = rw (e, append-nil) at (sym (reduce-undo-left u v))
+
+  -- ---- parts of the inverse
+
+  pub inverse-split : (n : ℕ) (w : List A) → inverse G w ≡ inverse G (drop n w) ++ inverse G (take n w)
+  inverse-split n w = ap (inverse G) (sym (take-append-drop n w)) ∙ inverse-append (take n w) (drop n w)
+
+  pub inverse-take : (n : ℕ) (w : List A) → inverse G (take n w) ≡ drop (length w - n) (inverse G w)
+  inverse-take n w = rw (inverse-split n w)
+      (sym (drop-at (inverse G (drop n w)) (inverse G (take n w)) (length w - n) (inverse-length (drop n w) ∙ length-drop n w)))
+
+  pub inverse-drop : (n : ℕ) (w : List A) → inverse G (drop n w) ≡ take (length w - n) (inverse G w)
+  inverse-drop n w = rw (inverse-split n w)
+      (sym (take-at (inverse G (drop n w)) (inverse G (take n w)) (length w - n) (inverse-length (drop n w) ∙ length-drop n w)))
+
+  pub take-inverse : (n : ℕ) (w : List A) → take n (inverse G w) ≡ inverse G (drop (length w - n) w)
+  take-inverse n w = inverse-turn (drop (length w - n) w) (take n (inverse G w))
+      (simp (inverse-length, inverse-twice) at (sym (inverse-take n (inverse G w))))
+
+  pub drop-inverse : (n : ℕ) (w : List A) → drop n (inverse G w) ≡ inverse G (take (length w - n) w)
+  drop-inverse n w = inverse-turn (take (length w - n) w) (drop n (inverse G w))
+      (simp (inverse-length, inverse-twice) at (sym (inverse-drop n (inverse G w))))
+
+  pub inverse-take-suc : (w : List A) (i : ℕ) (d : A) → i < length w → inverse G (take (suc i) w) ≡ flip (getD w i d) ∷ inverse G (take i w)
+  inverse-take-suc w i d h = rw (take-suc w i d h) (inverse-snoc (take i w) (getD w i d))
+
+  -- the letter at place i of the inverse is the inverse of the letter at the same place from the end
+  pub inverse-getD : (w : List A) (i j : ℕ) (d e : A) → suc (i + j) ≡ length w → getD (inverse G w) i d ≡ flip (getD w j e)
+  inverse-getD w i j d e h = rw (inverse-split (suc j) w, inverse-take-suc w j e (omega arith))
+      (getD-at (inverse G (drop (suc j) w)) (flip (getD w j e)) (inverse G (take j w)) d i
+      (omega (arith, inverse-length (drop (suc j) w), length-drop (suc j) w)))

@@ -1,0 +1,5 @@
+pub mod Letters
+pub mod Reduction
+pub mod Inverse
+pub mod Cancellation
+pub mod Stack
