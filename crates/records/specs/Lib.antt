@@ -1,0 +1,5 @@
+pub mod Records
+pub mod Answers
+pub mod Refusals
+pub mod Held
+pub mod Calls

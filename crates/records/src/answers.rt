@@ -1,0 +1,50 @@
+// What a call answers: a verdict, and with a refusal its number and its place.
+ghost use mathlib.Core.Path.{_≡_};
+ghost use Prim.Native.Nat.{ℕ};
+ghost use Rattle.records.specs.Answers.{outcomeOf};
+
+// A refusal of document 01: its number, and the place that it names.
+pub struct Refusal {
+    pub number: u8,
+    pub place: usize,
+}
+
+// What a test finds: nothing, or the refusal that ends the call.
+pub enum Checked {
+    Fine,
+    Failed(Refusal),
+}
+
+// The verdict that every answer carries.
+pub enum Verdict {
+    Done,
+    Member,
+    NotMember,
+    Refused(Refusal),
+}
+
+// The answer of a call that gives nothing but its verdict.
+pub struct Answer {
+    pub verdict: Verdict,
+}
+
+// A refusal as the outcome of a test.
+pub fn refuse(number: u8, place: usize) -> Checked
+    ensures { λ r. ⌜ r ≡ Checked.Failed (record { number = number; place = place }) ⌝ }
+{
+    Checked::Failed(Refusal { number, place })
+}
+
+// The answer of such a call, whose tests found what is given.
+pub fn outcome(checked: Checked) -> Answer
+    ensures { λ r. ⌜ r ≡ outcomeOf checked ⌝ }
+{
+    match checked {
+        Checked::Fine => Answer {
+            verdict: Verdict::Done,
+        },
+        Checked::Failed(refusal) => Answer {
+            verdict: Verdict::Refused(refusal),
+        },
+    }
+}

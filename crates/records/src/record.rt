@@ -1,0 +1,190 @@
+// One record of 64 bytes: its layout, the word in it, and a word written as its record.
+ghost use mathlib.Core.Path.{_≡_};
+ghost use mathlib.Core.Bool.{true};
+ghost use Prim.Native.Nat.{_≤_};
+ghost use lib.ListN.{length, take};
+ghost use Rattle.records.specs.Records.{isLetter, isLetterOrStop, notLetter, wordOf, recordOf, written, blanks};
+ghost use Rattle.records.specs.Refusals.{eachByte, orderRule, recordRules, Plain, Blank};
+use crate::answers::Checked;
+use crate::answers::refuse;
+
+// The bytes of a record, and of one slot of a system.
+pub const RECORD: usize = 64;
+
+pub const STOP: u8 = 46;
+
+const LINE_FEED: u8 = 10;
+
+// Whether a byte is a letter: a capital and its small letter stand 32 apart.
+pub fn is_letter(b: u8) -> bool
+    ensures { λ r. ⌜ r ≡ isLetter b ⌝ }
+{
+    if b < 65 {
+        return false;
+    }
+    if b > 122 {
+        return false;
+    }
+    (b - 65) % 32 < 26
+}
+
+// Whether a byte may stand in a record before its line feed.
+fn is_letter_or_stop(b: u8) -> bool
+    ensures { λ r. ⌜ r ≡ isLetterOrStop b ⌝ }
+{
+    let letter = is_letter(b);
+    if letter { true } else { b == STOP }
+}
+
+// Refusals 3 to 5 on a record that starts at a place of its buffer.
+pub fn check_record(bytes: &[u8], at: usize) -> Checked
+    requires { ⌜ length (now bytes) ≡ 64 ⌝ }
+    requires { ⌜ at ≤ 4096 ⌝ }
+    ensures { λ r. ⌜ r ≡ recordRules (now (bytes .entry)) at ⌝ }
+{
+    if bytes[63] != LINE_FEED {
+        return refuse(3, at + 63);
+    }
+    let letters = &bytes[0..63];
+    let plain = is_plain(letters);
+    if plain {
+        return Checked::Fine;
+    }
+    let checked = check_bytes(letters, at);
+    let Checked::Fine = checked else {
+        return checked;
+    };
+    check_order(letters, at)
+}
+
+// Whether a row is letters and then full stops: the quick way through a record that breaks no rule.
+fn is_plain(letters: &[u8]) -> bool
+    ensures { λ r. ⌜ (r ≡ true → Plain (now (letters .entry))) ⌝ }
+{
+    let mut i = 0;
+    while i < letters.len() {
+        let letter = is_letter(letters[i]);
+        if !letter {
+            return is_blank(&letters[i..]);
+        }
+        i += 1;
+    }
+    true
+}
+
+// Whether a row is full stops alone.
+fn is_blank(bytes: &[u8]) -> bool
+    ensures { λ r. ⌜ (r ≡ true → Blank (now (bytes .entry))) ⌝ }
+{
+    let mut i = 0;
+    while i < bytes.len() {
+        if bytes[i] != STOP {
+            return false;
+        }
+        i += 1;
+    }
+    true
+}
+
+// Refusal 4: every byte is a letter or a full stop.
+fn check_bytes(letters: &[u8], at: usize) -> Checked
+    requires { ⌜ length (now letters) ≤ 64 ⌝ }
+    requires { ⌜ at ≤ 4096 ⌝ }
+    ensures { λ r. ⌜ r ≡ eachByte isLetterOrStop 4 (now (letters .entry)) at ⌝ }
+{
+    let mut i = 0;
+    while i < letters.len() {
+        let fine = is_letter_or_stop(letters[i]);
+        if !fine {
+            let place = at + i;
+            return refuse(4, place);
+        }
+        i += 1;
+    }
+    Checked::Fine
+}
+
+// Refusal 5: no letter stands after a full stop.
+fn check_order(letters: &[u8], at: usize) -> Checked
+    requires { ⌜ length (now letters) ≤ 64 ⌝ }
+    requires { ⌜ at ≤ 4096 ⌝ }
+    ensures { λ r. ⌜ r ≡ orderRule (now (letters .entry)) at ⌝ }
+{
+    let mut i = 0;
+    while i < letters.len() {
+        if letters[i] == STOP {
+            let next = i + 1;
+            return check_blank(&letters[next..], at + next);
+        }
+        i += 1;
+    }
+    Checked::Fine
+}
+
+// Refusal 5, after the first full stop.
+fn check_blank(bytes: &[u8], at: usize) -> Checked
+    requires { ⌜ length (now bytes) ≤ 64 ⌝ }
+    requires { ⌜ at ≤ 8192 ⌝ }
+    ensures { λ r. ⌜ r ≡ eachByte notLetter 5 (now (bytes .entry)) at ⌝ }
+{
+    let mut i = 0;
+    while i < bytes.len() {
+        let letter = is_letter(bytes[i]);
+        if letter {
+            let place = at + i;
+            return refuse(5, place);
+        }
+        i += 1;
+    }
+    Checked::Fine
+}
+
+// The length of the word in a record.
+pub fn word_length(bytes: &[u8]) -> usize
+    requires { ⌜ length (now bytes) ≡ 64 ⌝ }
+    ensures short { λ n. ⌜ n ≤ 63 ⌝ }
+    ensures word { λ n. ⌜ take n (now (bytes .entry)) ≡ wordOf (now (bytes .entry)) ⌝ }
+{
+    let mut i = 0;
+    while i < 63 {
+        if bytes[i] == STOP {
+            return i;
+        }
+        i += 1;
+    }
+    63
+}
+
+// Writes a word as its record.
+pub fn write_record(word: &[u8], out: &mut [u8])
+    requires { ⌜ length (now word) ≤ 63 ⌝ }
+    requires { ⌜ length (now out) ≡ 64 ⌝ }
+    ensures { λ _. ⌜ now (out .exit) ≡ recordOf (now (word .entry)) ⌝ }
+{
+    fill_stops(out);
+    copy(word, out);
+    out[63] = LINE_FEED;
+}
+
+// Fills a buffer with full stops.
+fn fill_stops(out: &mut [u8])
+    ensures { λ _. ⌜ now (out .exit) ≡ blanks (length (now (out .entry))) ⌝ }
+{
+    let mut i = 0;
+    while i < out.len() {
+        out[i] = STOP;
+        i += 1;
+    }
+}
+
+// Copies a word to the beginning of a buffer.
+pub fn copy(word: &[u8], out: &mut [u8])
+    requires { ⌜ length (now word) ≤ length (now out) ⌝ }
+    ensures { λ _. ⌜ now (out .exit) ≡ written (now (word .entry)) (now (out .entry)) ⌝ }
+{
+    let mut i = 0;
+    while i < word.len() {
+        out[i] = word[i];
+        i += 1;
+    }
+}
