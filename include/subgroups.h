@@ -1,0 +1,30 @@
+/* Proved routines for subgroups of free groups, for C.
+ *
+ * Every call takes byte buffers of any length and content and either does its work or refuses. Lent buffers
+ * must not overlap. The library keeps nothing between calls and allocates nothing. A pointer may be any
+ * non-null pointer where its length is 0. */
+#ifndef SUBGROUPS_H
+#define SUBGROUPS_H
+
+#include <stddef.h>
+#include <stdint.h>
+
+#ifdef __cplusplus
+extern "C" {
+#endif
+
+/* verdict: 0 done, 1 member, 2 not a member, 3 refused. number and place are those of the refusal.
+ * independent and reduced are 0 or 1. What a call does not give is 0. */
+typedef struct {
+    uint64_t verdict, number, place, moves, rank, independent, reduced;
+} subgroups_answer;
+
+/* Writes each record of a system, freely reduced, into the same slot of words. Refusals 1 to 5 and 10. */
+void subgroups_tidy(const uint8_t *system, size_t system_len, uint8_t *words, size_t words_len,
+                    subgroups_answer *answer);
+
+#ifdef __cplusplus
+}
+#endif
+
+#endif

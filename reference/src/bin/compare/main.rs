@@ -1,0 +1,17 @@
+//! Compares the proved library with the Rust version, call by call and byte by byte.
+//! The inputs are the same in every run; the last line says how many calls agreed.
+
+mod inputs;
+mod lent;
+mod library;
+mod tally;
+mod tidy;
+
+use tally::Tally;
+
+/// Compares one entry after another and says how many calls agreed.
+fn main() {
+    let mut tally = Tally::new();
+    tidy::compare(&mut tally);
+    tally.end_of_all();
+}

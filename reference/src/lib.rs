@@ -1,0 +1,33 @@
+//! Subgroups of free groups: Nielsen reduction, membership and what goes with them.
+//! A plain Rust version, written from the papers alone, to compare the proved library with.
+//! The calls are tidy, reduce, test, member, replay, multiply and show.
+
+pub mod answers;
+pub mod graph;
+pub mod membership;
+pub mod moves;
+pub mod multiply;
+pub mod random;
+pub mod records;
+pub mod reducedness;
+pub mod reduction;
+pub mod refusals;
+pub mod replay;
+pub mod sheets;
+pub mod show;
+pub mod tidy;
+pub mod words;
+
+#[cfg(test)]
+mod consistency;
+#[cfg(test)]
+mod refusal_tests;
+
+pub use answers::Answer;
+pub use membership::member;
+pub use multiply::multiply;
+pub use reducedness::test;
+pub use reduction::reduce;
+pub use replay::{replay, Direction};
+pub use show::show;
+pub use tidy::tidy;

@@ -1,0 +1,258 @@
+//! Tests of every refusal in every call that can give it: number, place and untouched buffers.
+//! Two faults at once show the order in which they are tried.
+
+use crate::answers::{Answer, DONE, REFUSED};
+use crate::records::{record, system};
+use crate::{member, multiply, reduce, replay, show, test, tidy, Direction};
+
+const FILL: u8 = 0xEE;
+
+/// The answer of a refusal.
+fn refused(number: u64, place: u64) -> Answer {
+    Answer {
+        verdict: REFUSED,
+        number,
+        place,
+        ..Answer::default()
+    }
+}
+
+/// Checks that every call refuses this system with the same number and place and writes nothing.
+fn every_call_refuses(given: &[u8], number: u64, place: u64) {
+    let expected = refused(number, place);
+    let (mut words, mut log, mut product) = ([FILL; 64], [FILL; 5], [FILL; 3]);
+    assert_eq!(tidy(given, &mut words), expected);
+    assert_eq!(reduce(given, &mut words, &mut log), expected);
+    assert_eq!(test(given), expected);
+    let answer = member(given, b"bad", &mut words, &mut log, &mut product);
+    assert_eq!(answer, expected);
+    for direction in [Direction::Forward, Direction::Backward] {
+        assert_eq!(replay(given, b"a1", direction, &mut words), expected);
+    }
+    assert_eq!(multiply(given, b"bad", &mut words), expected);
+    assert_eq!((words, log, product), ([FILL; 64], [FILL; 5], [FILL; 3]));
+}
+
+/// Refusals 1 and 2, and 1 before 2.
+#[test]
+fn lengths() {
+    let given = system(&["ab"; 20]);
+    for length in 0..given.len() {
+        if length % 64 != 0 {
+            every_call_refuses(&given[..length], 1, 0);
+        } else if length > 1024 {
+            every_call_refuses(&given[..length], 2, 0);
+        }
+    }
+}
+
+/// Refusals 3, 4 and 5 at every place, and their order within and between records.
+#[test]
+fn malformed_records() {
+    for slot in 0..16 {
+        let mut given = system(&["abc"; 16]);
+        given[64 * slot + 63] = b'.';
+        every_call_refuses(&given, 3, 64 * slot as u64 + 63);
+        for byte in 0..63 {
+            let place = 64 * slot + byte;
+            let mut given = system(&["abc"; 16]);
+            given[place] = b'\n';
+            every_call_refuses(&given, 4, place as u64);
+            if byte > 3 {
+                given[place] = b'z';
+                every_call_refuses(&given, 5, place as u64);
+            }
+        }
+    }
+    let mut given = system(&["abc", "abc"]);
+    given[10] = b'x';
+    given[20] = b'?';
+    given[127] = b'.';
+    every_call_refuses(&given, 4, 20);
+    given[63] = 0;
+    every_call_refuses(&given, 3, 63);
+    given[63] = b'\n';
+    given[20] = b'.';
+    every_call_refuses(&given, 5, 10);
+    given[10] = b'.';
+    every_call_refuses(&given, 3, 127);
+}
+
+/// Refusal 6 of target and product, before 9, 10 and 11.
+#[test]
+fn malformed_targets() {
+    let given = system(&["ab", "b"]);
+    let sound = record("ac");
+    let mut cases = vec![(sound[..63].to_vec(), 0), (Vec::new(), 0)];
+    cases.push((system(&["a", "b"]), 0));
+    for (place, byte, expected) in [(63, b'.', 63), (5, b' ', 5), (9, b'a', 9), (0, b'.', 1)] {
+        let mut bytes = sound;
+        bytes[place] = byte;
+        cases.push((bytes.to_vec(), expected));
+    }
+    for (bytes, place) in cases {
+        let expected = refused(6, place);
+        assert_eq!(
+            member(&given, &bytes, &mut [], &mut [], &mut []),
+            expected,
+            "{bytes:?}"
+        );
+        assert_eq!(multiply(&given, &bytes, &mut []), expected, "{bytes:?}");
+    }
+}
+
+/// Refusals 7 and 8 of replay, before 10.
+#[test]
+fn malformed_logs() {
+    let given = system(&["ab", "b", "c"]);
+    let both = [Direction::Forward, Direction::Backward];
+    for direction in both {
+        for length in [1, 2, 3, 5, 6, 7] {
+            let log = &b"a1b?a1b\n"[..length];
+            assert_eq!(replay(&given, log, direction, &mut []), refused(7, 0));
+        }
+        let bad = [
+            "a1a\n", "a0b\n", "a5b\n", "A1b\n", "a1B\n", "d1a\n", "a1d\n", "a1b.", "q1a\n",
+            "`1a\n", "a1`\n", "\n1ba",
+        ];
+        for record in bad {
+            let log = format!("a1b\nc4a\n{record}a1a\n");
+            let answer = replay(&given, log.as_bytes(), direction, &mut []);
+            assert_eq!(answer, refused(8, 8), "{record:?}");
+        }
+        assert_eq!(replay(&[], b"a1b\n", direction, &mut []), refused(8, 0));
+        assert_eq!(replay(&[], b"", direction, &mut []), Answer::done());
+        let one = record("ab");
+        assert_eq!(replay(&one, b"a1b\n", direction, &mut []), refused(8, 0));
+    }
+}
+
+/// Refusal 9 of multiply, before 10.
+#[test]
+fn missing_slots() {
+    let given = system(&["ab", "b"]);
+    let mut word = [FILL; 63];
+    let answer = multiply(&given, &record("abBACa"), &mut word);
+    assert_eq!(answer, refused(9, 4));
+    assert_eq!(multiply(&[], &record("z"), &mut word), refused(9, 0));
+    assert_eq!(multiply(&given, &record("aZ"), &mut word), refused(9, 1));
+    assert_eq!(word, [FILL; 63]);
+    let mut word = [FILL; 65];
+    assert_eq!(multiply(&[], &record(""), &mut word), Answer::done());
+    assert_eq!(word[..64], record(""));
+    assert_eq!(word[64], FILL);
+}
+
+/// Refusals 10 and 11, with 10 before 11 and both before 12 and 13.
+#[test]
+fn short_buffers() {
+    let given = system(&["ab", "b"]);
+    let target = record("a");
+    let mut words = [FILL; 128];
+    let ten = refused(10, 0);
+    assert_eq!(tidy(&given, &mut words[..127]), ten);
+    assert_eq!(reduce(&given, &mut words[..127], &mut []), ten);
+    assert_eq!(
+        member(&given, &target, &mut words[..127], &mut [], &mut []),
+        ten
+    );
+    let log = b"a1b\n".repeat(100);
+    for direction in [Direction::Forward, Direction::Backward] {
+        assert_eq!(replay(&given, &log, direction, &mut words[..127]), ten);
+    }
+    let long = record(&"a".repeat(63));
+    assert_eq!(multiply(&given, &long, &mut words[..63]), ten);
+    let mut product = [FILL; 63];
+    let answer = member(&given, &target, &mut words, &mut [], &mut product);
+    assert_eq!(answer, refused(11, 0));
+    assert_eq!(words, [FILL; 128]);
+    assert_eq!(product, [FILL; 63]);
+}
+
+/// Refusal 12 of replay with the move's number, whichever way the log is run.
+#[test]
+fn too_long_in_replay() {
+    let given = system(&[&"a".repeat(60), "a"]);
+    let mut words = [FILL; 128];
+    let log = b"a1b\na3b\na3b\na3b\na3b\n";
+    let answer = replay(&given, log, Direction::Forward, &mut words);
+    assert_eq!(answer, refused(12, 4));
+    let log = b"a4b\na4b\na4b\na4b\na2b\n";
+    let answer = replay(&given, log, Direction::Backward, &mut words);
+    assert_eq!(answer, refused(12, 2));
+    assert_eq!(words, [FILL; 128]);
+    let answer = replay(&given, &log[4..16], Direction::Backward, &mut words);
+    assert_eq!(answer, Answer::done());
+    assert_eq!(words, system(&[&"a".repeat(63), "a"])[..]);
+}
+
+/// Refusal 12 of multiply looks at the final word alone.
+#[test]
+fn too_long_in_multiply() {
+    let given = system(&[&"ab".repeat(31), "c"]);
+    let mut word = [FILL; 64];
+    assert_eq!(multiply(&given, &record("abb"), &mut word), refused(12, 0));
+    assert_eq!(word, [FILL; 64]);
+    let there_and_back = format!("{}b{}", "a".repeat(31), "A".repeat(31));
+    let answer = multiply(&given, &record(&there_and_back), &mut word);
+    assert_eq!(answer, refused(12, 0));
+    let there_and_back = format!("{}{}b", "a".repeat(31), "A".repeat(31));
+    let answer = multiply(&given, &record(&there_and_back), &mut word);
+    assert_eq!(answer, Answer::done());
+    assert_eq!(word, record("c"));
+    let answer = multiply(&given, &record("ab"), &mut word);
+    assert_eq!(answer, Answer::done());
+    assert_eq!(word, record(&format!("{}c", "ab".repeat(31))));
+}
+
+/// Refusal 13 keeps the moves that fitted and touches nothing else.
+#[test]
+fn short_log_keeps_what_fitted() {
+    let given = system(&["aa", "aaa"]);
+    let whole = b"a2b\nb1a\nb1a\na1b\n";
+    for length in 0..24 {
+        let (mut words, mut product) = ([FILL; 128], [FILL; 64]);
+        let mut log = vec![FILL; length];
+        let mut other_log = vec![FILL; length];
+        let answer = reduce(&given, &mut words, &mut log);
+        let mut same_words = [FILL; 128];
+        let member_answer = member(
+            &given,
+            &record("a"),
+            &mut same_words,
+            &mut other_log,
+            &mut product,
+        );
+        let kept = 4 * (length / 4).min(4);
+        assert_eq!(log[..kept], whole[..kept]);
+        assert!(log[kept..].iter().all(|&byte| byte == FILL));
+        assert_eq!(log, other_log);
+        if length < 16 {
+            assert_eq!(answer, refused(13, 0));
+            assert_eq!(member_answer, refused(13, 0));
+            assert_eq!((words, product), ([FILL; 128], [FILL; 64]));
+        } else {
+            assert_eq!(answer.numbers(), [DONE, 0, 0, 4, 1, 0, 0]);
+            assert_eq!(product, record("b"));
+        }
+        assert_eq!(words, same_words);
+    }
+}
+
+/// Show and the empty part that stands for refusal 14.
+#[test]
+fn shown_parts() {
+    let reduced = system(&["", "a", "b"]);
+    let given = system(&["aa", "aaa", "c"]);
+    assert_eq!(show(&reduced, &given, b'a'), record("aa"));
+    assert_eq!(show(&reduced, &given, b'b'), record("a"));
+    for slot in [b'd', b'p', b'q', b'A', b'`', 0, 255] {
+        assert!(show(&reduced, &given, slot).is_empty());
+    }
+    assert!(show(&reduced, &given[..128], b'a').is_empty());
+    assert!(show(&reduced[..100], &given[..100], b'a').is_empty());
+    assert!(show(&[], &[], b'a').is_empty());
+    let long = system(&["ab"; 20]);
+    assert_eq!(show(&long, &long, b'p'), record("ab"));
+    assert!(show(&long, &long, b'q').is_empty());
+}

@@ -1,0 +1,282 @@
+//! The worked sheets with their expected outcomes, as data for the tests and for the comparison.
+//! Sheets that only tidy, and the sheets about limits, are tests of their own below.
+
+/// What a sheet expects of its target.
+#[derive(Clone, Copy, Debug, PartialEq, Eq)]
+pub enum Target {
+    /// The sheet has no target.
+    None,
+    /// The target is a member, by this product.
+    Member(&'static str, &'static str),
+    /// The target is not a member.
+    NotMember(&'static str),
+}
+
+/// One worked sheet; what it does not state is left as `None`.
+pub struct Sheet {
+    pub name: &'static str,
+    pub given: &'static [&'static str],
+    pub target: Target,
+    pub log: Option<&'static str>,
+    pub reduced: Option<&'static [&'static str]>,
+    pub rank: Option<u64>,
+    pub independent: Option<bool>,
+}
+
+/// The records that the sheets on tidy give, with what they are tidied to.
+pub const TIDY: [(&str, &str, &str); 2] = [("P1", "aAbBc", "c"), ("P2", "abBA", "")];
+
+/// The sheets from P3 on, and Nielsen's four words.
+pub const SHEETS: [Sheet; 11] = [
+    Sheet {
+        name: "P3",
+        given: &["ab", "b"],
+        target: Target::Member("a", "a"),
+        log: Some("a4b\n"),
+        reduced: Some(&["a", "b"]),
+        rank: Some(2),
+        independent: Some(true),
+    },
+    Sheet {
+        name: "P4",
+        given: &["aa", "aaa"],
+        target: Target::Member("a", "b"),
+        log: Some("a2b\nb1a\nb1a\na1b\n"),
+        reduced: Some(&["", "a"]),
+        rank: Some(1),
+        independent: Some(false),
+    },
+    Sheet {
+        name: "P5",
+        given: &["ab", "ac", "Bd"],
+        target: Target::Member("Cd", "Bc"),
+        log: Some("c1a\n"),
+        reduced: Some(&["ab", "ac", "ad"]),
+        rank: None,
+        independent: None,
+    },
+    Sheet {
+        name: "P6",
+        given: &["ab", "ac", "Bd"],
+        target: Target::NotMember("d"),
+        log: Some("c1a\n"),
+        reduced: Some(&["ab", "ac", "ad"]),
+        rank: None,
+        independent: None,
+    },
+    Sheet {
+        name: "P7",
+        given: &["a", "BAc", "dbb"],
+        target: Target::Member("adbAcACaBD", "acbABC"),
+        log: Some(""),
+        reduced: Some(&["a", "BAc", "dbb"]),
+        rank: None,
+        independent: None,
+    },
+    Sheet {
+        name: "P8",
+        given: &["ab"],
+        target: Target::NotMember("ba"),
+        log: None,
+        reduced: None,
+        rank: None,
+        independent: None,
+    },
+    Sheet {
+        name: "P9",
+        given: &[],
+        target: Target::Member("", ""),
+        log: Some(""),
+        reduced: Some(&[]),
+        rank: Some(0),
+        independent: Some(true),
+    },
+    Sheet {
+        name: "P10",
+        given: &[],
+        target: Target::NotMember("a"),
+        log: None,
+        reduced: None,
+        rank: None,
+        independent: None,
+    },
+    Sheet {
+        name: "P11",
+        given: &["ab", "ab"],
+        target: Target::Member("abab", "bb"),
+        log: Some("a2b\n"),
+        reduced: None,
+        rank: Some(1),
+        independent: Some(false),
+    },
+    Sheet {
+        name: "P12",
+        given: &["aA", "b"],
+        target: Target::None,
+        log: None,
+        reduced: None,
+        rank: Some(1),
+        independent: Some(true),
+    },
+    Sheet {
+        name: "Nielsen's four words",
+        given: &["dbAc", "aaBBD", "BAcBAc", "dbbABAc"],
+        target: Target::None,
+        log: None,
+        reduced: None,
+        rank: Some(3),
+        independent: Some(false),
+    },
+];
+
+#[cfg(test)]
+mod tests {
+    use super::*;
+    use crate::answers::{Answer, DONE, MEMBER, NOT_A_MEMBER, REFUSED};
+    use crate::graph::traces;
+    use crate::records::{check_system, record, system};
+    use crate::words::Word;
+    use crate::{member, multiply, reduce, replay, test, tidy, Direction};
+
+    const FILL: u8 = 0xEE;
+
+    /// Tidies the records given as texts and returns the words buffer.
+    fn tidied(texts: &[&str]) -> Vec<u8> {
+        let given = system(texts);
+        let mut words = vec![FILL; given.len()];
+        assert_eq!(tidy(&given, &mut words), Answer::done());
+        words
+    }
+
+    /// The sheets P1 and P2.
+    #[test]
+    fn tidy_sheets() {
+        for (name, given, expected) in TIDY {
+            assert_eq!(tidied(&[given]), record(expected), "{name}");
+        }
+    }
+
+    /// Checks the numbers, words and log of an answer against a sheet.
+    fn check_reduction(sheet: &Sheet, answer: Answer, words: &[u8], log: &[u8]) {
+        let name = sheet.name;
+        let logged = 4 * answer.moves as usize;
+        if let Some(expected) = sheet.log {
+            assert_eq!(&log[..logged], expected.as_bytes(), "{name}");
+        }
+        assert!(log[logged..].iter().all(|&byte| byte == FILL), "{name}");
+        if let Some(expected) = sheet.reduced {
+            assert_eq!(words, system(expected), "{name}");
+        }
+        if let Some(expected) = sheet.rank {
+            assert_eq!(answer.rank, expected, "{name}");
+        }
+        if let Some(expected) = sheet.independent {
+            assert_eq!(answer.independent, u64::from(expected), "{name}");
+        }
+    }
+
+    /// Every sheet through reduce, test and replay both ways.
+    #[test]
+    fn reduce_sheets() {
+        for sheet in &SHEETS {
+            let given = system(sheet.given);
+            let mut words = vec![FILL; given.len()];
+            let mut log = [FILL; 400];
+            let answer = reduce(&given, &mut words, &mut log);
+            assert_eq!(answer.verdict, DONE);
+            check_reduction(sheet, answer, &words, &log);
+            assert_eq!(test(&words).reduced, 1);
+            assert_eq!(test(&given).reduced, u64::from(answer.moves == 0));
+            let moves = &log[..4 * answer.moves as usize];
+            let mut after = vec![FILL; given.len()];
+            replay(&given, moves, Direction::Forward, &mut after);
+            assert_eq!(after, words);
+            replay(&words, moves, Direction::Backward, &mut after);
+            assert_eq!(after, tidied(sheet.given));
+        }
+    }
+
+    /// Every sheet with a target through member, multiply and the folded graph.
+    #[test]
+    fn member_sheets() {
+        for sheet in &SHEETS {
+            let (target, expected) = match sheet.target {
+                Target::None => continue,
+                Target::Member(target, product) => (target, Some(product)),
+                Target::NotMember(target) => (target, None),
+            };
+            let given = system(sheet.given);
+            let mut words = vec![FILL; given.len()];
+            let mut log = [FILL; 400];
+            let mut product = [FILL; 64];
+            let answer = member(&given, &record(target), &mut words, &mut log, &mut product);
+            check_reduction(sheet, answer, &words, &log);
+            let word = Word::freely_reduced(target.as_bytes());
+            let freely_reduced = check_system(&given).unwrap().freely_reduced();
+            let traced = traces(freely_reduced.words(), &word);
+            match expected {
+                Some(expected) => {
+                    assert_eq!(answer.verdict, MEMBER, "{}", sheet.name);
+                    assert_eq!(product, record(expected), "{}", sheet.name);
+                    let mut multiplied = [FILL; 64];
+                    multiply(&words, &product, &mut multiplied);
+                    assert_eq!(multiplied, tidied(&[target])[..], "{}", sheet.name);
+                }
+                None => {
+                    assert_eq!(answer.verdict, NOT_A_MEMBER, "{}", sheet.name);
+                    assert_eq!(product, [FILL; 64], "{}", sheet.name);
+                }
+            }
+            assert_eq!(traced, expected.is_some(), "{}", sheet.name);
+        }
+    }
+
+    /// Nielsen's four words are reduced to three words of 7 letters in all.
+    #[test]
+    fn nielsens_four_words() {
+        let given = system(&["dbAc", "aaBBD", "BAcBAc", "dbbABAc"]);
+        let mut words = [FILL; 256];
+        let mut log = [FILL; 400];
+        reduce(&given, &mut words, &mut log);
+        let letters = words.iter().filter(|byte| byte.is_ascii_alphabetic());
+        assert_eq!(letters.count(), 7);
+    }
+
+    /// The limits on lengths: what passes, and what gets 1 or 2.
+    #[test]
+    fn limits() {
+        let full = "abcdefgabcdefgabcdefgabcdefgabcdefgabcdefgabcdefgabcdefgabcdefg";
+        assert_eq!(full.len(), 63);
+        assert_eq!(tidied(&[full]), record(full));
+        let mut words = [FILL; 1088];
+        let records = system(&["ab"; 17]);
+        assert_eq!(tidy(&records[..1024], &mut words), Answer::done());
+        assert_eq!(&words[..1024], &records[..1024]);
+        assert_eq!(words[1024..], [FILL; 64]);
+        for (length, number) in [(1088, 2), (63, 1)] {
+            let mut words = [FILL; 1088];
+            let answer = tidy(&records[..length], &mut words);
+            assert_eq!(answer.numbers(), [REFUSED, number, 0, 0, 0, 0, 0]);
+            assert_eq!(words, [FILL; 1088]);
+        }
+        assert_eq!(tidy(&[], &mut []), Answer::done());
+    }
+
+    /// P3 with a log of 3 bytes gets 13, and with 4 bytes passes.
+    #[test]
+    fn short_logs() {
+        let given = system(&["ab", "b"]);
+        let mut words = [FILL; 128];
+        let mut log = [FILL; 4];
+        let mut product = [FILL; 64];
+        let target = record("a");
+        let answer = member(&given, &target, &mut words, &mut log[..3], &mut product);
+        assert_eq!(answer.numbers(), [REFUSED, 13, 0, 0, 0, 0, 0]);
+        assert_eq!((words, log, product), ([FILL; 128], [FILL; 4], [FILL; 64]));
+        let answer = member(&given, &target, &mut words, &mut log, &mut product);
+        assert_eq!(answer.numbers(), [MEMBER, 0, 0, 1, 2, 1, 0]);
+        assert_eq!(words, system(&["a", "b"])[..]);
+        assert_eq!(&log, b"a4b\n");
+        assert_eq!(product, record("a"));
+    }
+}
