@@ -23,6 +23,24 @@ typedef struct {
 void subgroups_tidy(const uint8_t *system, size_t system_len, uint8_t *words, size_t words_len,
                     subgroups_answer *answer);
 
+/* Says in reduced whether the freely reduced words of a system are reduced. Refusals 1 to 5. */
+void subgroups_test(const uint8_t *system, size_t system_len, subgroups_answer *answer);
+
+/* Writes the reduced words and the log of the moves, and gives moves, rank and independent.
+ * Refusals 1 to 5, 10 and 13; under 13 the log holds the first moves that fit. */
+void subgroups_reduce(const uint8_t *system, size_t system_len, uint8_t *words, size_t words_len,
+                      uint8_t *log, size_t log_len, subgroups_answer *answer);
+
+/* Writes the words of a system after the moves of a log, forward where backward is 0, and otherwise backward.
+ * Refusals 1 to 5, 7, 8, 10 and 12. */
+void subgroups_replay(const uint8_t *system, size_t system_len, const uint8_t *log, size_t log_len,
+                      uint8_t backward, uint8_t *words, size_t words_len, subgroups_answer *answer);
+
+/* Writes the freely reduced word that a product over the slots of a system multiplies out to.
+ * Refusals 1 to 5, 6, 9, 10 and 12. */
+void subgroups_multiply(const uint8_t *system, size_t system_len, const uint8_t *product, size_t product_len,
+                        uint8_t *word, size_t word_len, subgroups_answer *answer);
+
 #ifdef __cplusplus
 }
 #endif

@@ -3,9 +3,7 @@
 
 use crate::answers::{Answer, DONE, MEMBER, NOT_A_MEMBER};
 use crate::graph::Graph;
-use crate::moves::{Form, Move};
-use crate::random::{push_record, Kind, Random};
-use crate::records::{check_system, System};
+use crate::random::{freely_reduced, push_record, Kind, Random};
 use crate::words::Word;
 use crate::{member, multiply, reduce, replay, test, tidy, Direction};
 
@@ -14,24 +12,7 @@ const FILL: u8 = 0xEE;
 /// A random system of one of many kinds, with its number of generators.
 fn random_system(random: &mut Random) -> (Vec<u8>, usize) {
     let generators = [1, 2, 3, 5, 26][random.below(5)];
-    let records = random.below(17);
-    let (shortest, longest) = [(0, 4), (1, 8), (0, 20), (40, 63), (60, 63)][random.below(5)];
-    let system = match random.below(3) {
-        0 => {
-            let longest_half = [1, 2, 3, 31][random.below(4)];
-            random.system_of_shared_halves(generators, records, longest_half)
-        }
-        _ => {
-            let kind = Kind::ALL[random.below(3)];
-            random.system(kind, generators, records, shortest, longest)
-        }
-    };
-    (system, generators)
-}
-
-/// The freely reduced words of a well-formed system.
-fn words_of(system: &[u8]) -> System {
-    check_system(system).unwrap().freely_reduced()
+    (random.system_to_reduce(generators), generators)
 }
 
 /// A system after tidy.
@@ -63,10 +44,10 @@ fn reduce_against_test_and_replay() {
         let moves = &log[..4 * answer.moves as usize];
         assert_eq!(replayed(&given, moves, Direction::Forward), words);
         assert_eq!(replayed(&words, moves, Direction::Backward), tidied(&given));
-        let freely_reduced = words_of(&given);
-        let rank = Graph::folded(freely_reduced.words()).rank();
+        let words_given = freely_reduced(&given);
+        let rank = Graph::folded(words_given.words()).rank();
         assert_eq!(answer.rank, rank as u64);
-        let independent = rank == freely_reduced.rank();
+        let independent = rank == words_given.rank();
         assert_eq!(answer.independent, u64::from(independent));
     }
 }
@@ -97,12 +78,12 @@ fn member_against_graph_and_multiply() {
     let mut counts = [0; 2];
     for _ in 0..2000 {
         let (given, generators) = random_system(&mut random);
-        let freely_reduced = words_of(&given);
-        let graph = Graph::folded(freely_reduced.words());
+        let words_given = freely_reduced(&given);
+        let graph = Graph::folded(words_given.words());
         let mut same_words = vec![FILL; given.len()];
         let reduction = reduce(&given, &mut same_words, &mut same_log);
         for _ in 0..6 {
-            let letters = random_target(&mut random, freely_reduced.words(), generators);
+            let letters = random_target(&mut random, words_given.words(), generators);
             let mut target = Vec::new();
             push_record(&mut target, &letters);
             let mut words = vec![FILL; given.len()];
@@ -152,16 +133,13 @@ fn replay_there_and_back() {
         let given = random.system(Kind::Uniform, generators, records, 0, 10);
         let mut log = Vec::new();
         for _ in 0..random.below(12) {
-            let changed = random.below(records);
-            let other = (changed + random.between(1, records - 1)) % records;
-            let form = Form::ALL[random.below(4)];
-            let step = Move {
-                changed,
-                form,
-                other,
-            };
+            let step = random.any_move(records);
             log.extend_from_slice(&step.record());
         }
+        let fitting = random.log(freely_reduced(&given).words(), 30);
+        let after = replayed(&given, &fitting, Direction::Forward);
+        let back = replayed(&after, &fitting, Direction::Backward);
+        assert_eq!(back, tidied(&given));
         let mut after = vec![FILL; given.len()];
         let answer = replay(&given, &log, Direction::Forward, &mut after);
         if answer == Answer::done() {

@@ -4,6 +4,7 @@
 
 pub mod answers;
 pub mod graph;
+pub mod measured;
 pub mod membership;
 pub mod moves;
 pub mod multiply;
@@ -15,6 +16,7 @@ pub mod refusals;
 pub mod replay;
 pub mod sheets;
 pub mod show;
+pub mod small;
 pub mod tidy;
 pub mod words;
 

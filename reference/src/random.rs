@@ -1,7 +1,8 @@
 //! A small deterministic source of random numbers, words, systems and targets.
 //! The same seed gives the same inputs everywhere.
 
-use crate::records::{write_letters, RECORD};
+use crate::moves::{Form, Move};
+use crate::records::{check_system, write_letters, System, MOST_RECORDS, RECORD};
 use crate::words::{inverse_letter, Word, LONGEST};
 
 /// A deterministic source of random numbers.
@@ -180,6 +181,140 @@ impl Random {
         }
         Word::freely_reduced(&letters)
     }
+
+    /// The letters with pairs that cancel put in between, at most 63 in all.
+    pub fn unreduced(&mut self, letters: &[u8], generators: usize) -> Vec<u8> {
+        let mut letters = letters.to_vec();
+        for _ in 0..self.below((LONGEST - letters.len()) / 2 + 1) {
+            let letter = self.letter(generators);
+            let place = self.below(letters.len() + 1);
+            letters.splice(place..place, [letter, inverse_letter(letter)]);
+        }
+        letters
+    }
+
+    /// A system of beginnings of a few long words, each followed by the inverse of another one.
+    pub fn system_of_shared_beginnings(&mut self, generators: usize, records: usize) -> Vec<u8> {
+        let longest = self.between(2, LONGEST / 2);
+        let stems: Vec<Vec<u8>> = (0..self.between(2, 5))
+            .map(|_| self.reduced_letters(generators, longest))
+            .collect();
+        let mut system = Vec::with_capacity(RECORD * records);
+        for _ in 0..records {
+            let length = self.between(1, longest);
+            let other_length = match self.below(3) {
+                0 => self.between(1, longest),
+                _ => length,
+            };
+            let first = &stems[self.below(stems.len())][..length];
+            let second = &stems[self.below(stems.len())][..other_length];
+            let second = Word::freely_reduced(second).inverse();
+            push_record(&mut system, &[first, second.letters()].concat());
+        }
+        system
+    }
+
+    /// A system in which about half of the words are products of the others.
+    pub fn dependent_system(
+        &mut self,
+        generators: usize,
+        records: usize,
+        shortest: usize,
+        longest: usize,
+    ) -> Vec<u8> {
+        let free = self.system(Kind::Reduced, generators, records / 2, shortest, longest);
+        let free = freely_reduced(&free);
+        let mut system = Vec::with_capacity(RECORD * records);
+        for slot in 0..records {
+            let factors = self.between(0, 6);
+            match free.words().get(slot / 2) {
+                Some(word) if slot % 2 == 0 => push_record(&mut system, word.letters()),
+                _ => push_record(&mut system, self.product(free.words(), factors).letters()),
+            }
+        }
+        system
+    }
+
+    /// A system of short words after many random moves.
+    pub fn scrambled_system(&mut self, generators: usize, records: usize) -> Vec<u8> {
+        let mut system = self.system(Kind::Uniform, generators, records, 0, 12);
+        let mut scrambled = freely_reduced(&system);
+        if records > 1 {
+            for _ in 0..self.below(8 * records) {
+                self.any_move(records).make(scrambled.words_mut());
+            }
+        }
+        scrambled.write(&mut system);
+        system
+    }
+
+    /// A system of long powers of one generator and its inverse, which takes very many moves.
+    pub fn system_of_powers(&mut self, generators: usize, records: usize) -> Vec<u8> {
+        let letter = self.letter(generators);
+        let mut system = Vec::with_capacity(RECORD * records);
+        for _ in 0..records {
+            let power = vec![letter; self.between(LONGEST - 5, LONGEST)];
+            let power = Word::freely_reduced(&power);
+            let inverse = power.inverse();
+            let word = if self.below(2) == 0 { &power } else { &inverse };
+            push_record(&mut system, word.letters());
+        }
+        system
+    }
+
+    /// A system over this many generators of one of many kinds, with much or little to reduce.
+    pub fn system_to_reduce(&mut self, generators: usize) -> Vec<u8> {
+        let records = self.below(MOST_RECORDS + 1);
+        let lengths = [(0, 3), (1, 8), (4, 20), (0, 63), (56, 63)];
+        let (shortest, longest) = lengths[self.below(lengths.len())];
+        match self.below(6) {
+            0 => {
+                let kind = Kind::ALL[self.below(Kind::ALL.len())];
+                self.system(kind, generators, records, shortest, longest)
+            }
+            1 => self.dependent_system(generators, records, shortest, longest),
+            2 => self.scrambled_system(generators, records),
+            3 => self.system_of_shared_beginnings(generators, records),
+            _ => {
+                let longest_half = [1, 2, 3, 8, 31][self.below(5)];
+                self.system_of_shared_halves(generators, records, longest_half)
+            }
+        }
+    }
+
+    /// Any move over at least two slots.
+    pub fn any_move(&mut self, slots: usize) -> Move {
+        let changed = self.below(slots);
+        let other = (changed + self.between(1, slots - 1)) % slots;
+        let form = Form::ALL[self.below(Form::ALL.len())];
+        Move {
+            changed,
+            form,
+            other,
+        }
+    }
+
+    /// A log of at most this many moves, none of which leads to more than 63 letters.
+    pub fn log(&mut self, words: &[Word], moves: usize) -> Vec<u8> {
+        let mut words = words.to_vec();
+        let mut log = Vec::new();
+        if words.len() < 2 {
+            return log;
+        }
+        for _ in 0..moves {
+            let step = self.any_move(words.len());
+            if step.make(&mut words) {
+                log.extend_from_slice(&step.record());
+            }
+        }
+        log
+    }
+}
+
+/// The freely reduced words of a well-formed system.
+pub fn freely_reduced(system: &[u8]) -> System {
+    let given = check_system(system);
+    given.expect("the system is well formed").freely_reduced()
 }
 
 /// Adds a well-formed record of at most 63 letters to a system.

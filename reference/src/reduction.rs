@@ -1,24 +1,55 @@
 //! The call reduce: shortenings and half-end moves in their fixed order, until neither applies.
-//! The search counts what cancels and compares it with half a word; it builds nothing.
+//! The search counts what cancels and compares it with half a word; it builds nothing, and it
+//! passes over the pairs of words that it has tried before and that have not changed since.
 
 use crate::answers::Answer;
 use crate::moves::{Form, Move, LOG_RECORD};
-use crate::records::{check_room_for_words, check_system, System};
+use crate::records::{check_room_for_words, check_system, System, MOST_RECORDS};
 use crate::refusals::{Refusal, LOG_BUFFER_SHORT};
 use crate::words::Word;
 
-/// The first move that makes a word strictly shorter, by changed slot, other slot and form.
-pub fn first_shortening(words: &[Word]) -> Option<Move> {
-    for (changed, word) in words.iter().enumerate() {
-        if word.is_empty() {
-            continue;
-        }
-        for (other, by) in words.iter().enumerate() {
-            if other == changed || by.is_empty() || 2 * word.len() <= by.len() {
-                continue;
-            }
-            for form in Form::ALL {
-                if 2 * form.cancelled(by, word) > by.len() {
+/// A set of slots, with one bit for each.
+type Slots = u16;
+
+/// The search for moves, which remembers for each pair of slots what it has found out.
+/// A pair tried in vain is passed over until one of its two words changes, so that the move found
+/// is still the first of the order.
+#[derive(Default)]
+pub struct Search {
+    /// For each slot, the other slots by which no form shortens its word.
+    not_shortened_by: [Slots; MOST_RECORDS],
+    /// For each slot, the other slots whose words have been compared with its halves.
+    halves_compared: [Slots; MOST_RECORDS],
+    /// Of those, the ones whose word or inverse begins with the first half.
+    first_half_at: [Slots; MOST_RECORDS],
+    /// Of those, the ones whose word or inverse begins with the inverse of the second half.
+    second_half_at: [Slots; MOST_RECORDS],
+}
+
+/// The slots of a set in order.
+#[inline]
+fn slots_in(mut set: Slots) -> impl Iterator<Item = usize> {
+    std::iter::from_fn(move || {
+        let slot = set.trailing_zeros();
+        set &= set.wrapping_sub(1);
+        (slot < Slots::BITS).then_some(slot as usize)
+    })
+}
+
+/// The slots that are not blank.
+fn slots_taking_part(words: &[Word]) -> Slots {
+    let bit = |(slot, word): (usize, &Word)| Slots::from(!word.is_empty()) << slot;
+    words.iter().enumerate().map(bit).sum()
+}
+
+impl Search {
+    /// The first move that makes a word strictly shorter, by changed slot, other slot and form.
+    pub fn first_shortening(&mut self, words: &[Word]) -> Option<Move> {
+        let taking_part = slots_taking_part(words);
+        for changed in slots_in(taking_part) {
+            let others = taking_part & !(1 << changed) & !self.not_shortened_by[changed];
+            for other in slots_in(others) {
+                if let Some(form) = self.try_pair(words, changed, other) {
                     return Some(Move {
                         changed,
                         form,
@@ -27,70 +58,108 @@ pub fn first_shortening(words: &[Word]) -> Option<Move> {
                 }
             }
         }
+        None
     }
-    None
-}
 
-/// Whether a word of even length has both halves at beginnings of other slots' words and inverses.
-fn half_end_word(words: &[Word], slot: usize) -> bool {
-    let word = &words[slot];
-    if word.is_empty() || word.len() % 2 == 1 {
-        return false;
-    }
-    let half = word.len() / 2;
-    let mut first_half_found = false;
-    let mut second_half_found = false;
-    for (other, by) in words.iter().enumerate() {
-        if other == slot || by.len() < half {
-            continue;
+    /// The first form that shortens the changed slot's word by the other's.
+    #[inline]
+    fn try_pair(&mut self, words: &[Word], changed: usize, other: usize) -> Option<Form> {
+        let (word, by) = (&words[changed], &words[other]);
+        let mut most_cancelled = 0;
+        for form in Form::ALL {
+            let cancelled = form.cancelled(by, word);
+            if 2 * cancelled > by.len() {
+                return Some(form);
+            }
+            most_cancelled = most_cancelled.max(cancelled);
         }
-        first_half_found = first_half_found
-            || Form::InverseBefore.cancelled(by, word) >= half
-            || Form::WordBefore.cancelled(by, word) >= half;
-        second_half_found = second_half_found
-            || Form::WordAfter.cancelled(by, word) >= half
-            || Form::InverseAfter.cancelled(by, word) >= half;
-        if first_half_found && second_half_found {
-            return true;
+        self.not_shortened_by[changed] |= 1 << other;
+        if 2 * most_cancelled <= word.len() {
+            self.not_shortened_by[other] |= 1 << changed;
         }
+        None
     }
-    false
-}
 
-/// The half-end move of a system in which nothing shortens, if a word qualifies.
-pub fn half_end_move(words: &[Word]) -> Option<Move> {
-    let mut shortest: Option<usize> = None;
-    for slot in 0..words.len() {
-        let shorter = shortest.is_none_or(|best| words[slot].len() < words[best].len());
-        if shorter && half_end_word(words, slot) {
-            shortest = Some(slot);
+    /// Whether a word of even length has its halves at the beginnings of other words or inverses.
+    fn has_both_halves_elsewhere(&mut self, words: &[Word], slot: usize, others: Slots) -> bool {
+        let word = &words[slot];
+        let half = word.len() / 2;
+        for other in slots_in(others & !self.halves_compared[slot]) {
+            if self.first_half_at[slot] != 0 && self.second_half_at[slot] != 0 {
+                return true;
+            }
+            let by = &words[other];
+            let begins = |form: Form| form.cancelled(by, word) >= half;
+            let first_half = begins(Form::InverseBefore) || begins(Form::WordBefore);
+            let second_half = begins(Form::WordAfter) || begins(Form::InverseAfter);
+            self.first_half_at[slot] |= Slots::from(first_half) << other;
+            self.second_half_at[slot] |= Slots::from(second_half) << other;
+            self.halves_compared[slot] |= 1 << other;
         }
+        self.first_half_at[slot] != 0 && self.second_half_at[slot] != 0
     }
-    let other = shortest?;
-    let by = &words[other];
-    let half = by.len() / 2;
-    for (changed, word) in words.iter().enumerate() {
-        if changed == other || word.is_empty() {
-            continue;
+
+    /// The half-end move of a system in which nothing shortens, if a word qualifies.
+    pub fn half_end_move(&mut self, words: &[Word]) -> Option<Move> {
+        let taking_part = slots_taking_part(words);
+        let mut shortest: Option<usize> = None;
+        for slot in slots_in(taking_part) {
+            let length = words[slot].len();
+            let shorter = shortest.is_none_or(|best| length < words[best].len());
+            let others = taking_part & !(1 << slot);
+            if shorter
+                && length.is_multiple_of(2)
+                && self.has_both_halves_elsewhere(words, slot, others)
+            {
+                shortest = Some(slot);
+            }
         }
-        for form in [Form::InverseAfter, Form::WordBefore] {
-            if form.cancelled(by, word) >= half {
-                return Some(Move {
-                    changed,
-                    form,
-                    other,
-                });
+        let other = shortest?;
+        let by = &words[other];
+        let half = by.len() / 2;
+        for changed in slots_in(taking_part & !(1 << other)) {
+            for form in [Form::InverseAfter, Form::WordBefore] {
+                if form.cancelled(by, &words[changed]) >= half {
+                    return Some(Move {
+                        changed,
+                        form,
+                        other,
+                    });
+                }
+            }
+        }
+        None
+    }
+
+    /// The next move of the rules, if one applies.
+    pub fn next_move(&mut self, words: &[Word]) -> Option<Move> {
+        self.first_shortening(words)
+            .or_else(|| self.half_end_move(words))
+    }
+
+    /// Forgets what was found out about a slot whose word has changed.
+    pub fn forget(&mut self, slot: usize) {
+        let sets = [
+            &mut self.not_shortened_by,
+            &mut self.halves_compared,
+            &mut self.first_half_at,
+            &mut self.second_half_at,
+        ];
+        for set in sets {
+            set[slot] = 0;
+            for slots in set {
+                *slots &= !(1 << slot);
             }
         }
     }
-    None
 }
 
 /// Makes all moves of the rules, writes them into the log and returns their number.
 pub fn reduce_words(words: &mut [Word], log: &mut [u8]) -> Result<usize, Refusal> {
     let (records, _) = log.as_chunks_mut::<LOG_RECORD>();
+    let mut search = Search::default();
     let mut moves = 0;
-    while let Some(step) = first_shortening(words).or_else(|| half_end_move(words)) {
+    while let Some(step) = search.next_move(words) {
         let Some(record) = records.get_mut(moves) else {
             return Err(Refusal::new(LOG_BUFFER_SHORT, 0));
         };
@@ -98,6 +167,7 @@ pub fn reduce_words(words: &mut [Word], log: &mut [u8]) -> Result<usize, Refusal
         moves += 1;
         let fits = step.make(words);
         assert!(fits, "a move of the rules makes no word longer");
+        search.forget(step.changed);
     }
     Ok(moves)
 }
@@ -223,19 +293,20 @@ mod tests {
         let mut random = Random::new(21);
         let (mut shortenings, mut half_ends) = (0, 0);
         for round in 0..1500 {
-            let records = random.below(13);
+            let records = random.below(17);
             let generators = random.between(1, 8);
-            let system = if round % 3 == 0 {
-                random.system(Kind::Uniform, generators, records, 0, 12)
-            } else {
-                random.system_of_shared_halves(generators, records, 4)
+            let system = match round % 4 {
+                0 => random.system(Kind::Uniform, generators, records, 0, 12),
+                1 => random.system_to_reduce(generators),
+                _ => random.system_of_shared_halves(generators, records, 4),
             };
             let mut system = check_system(&system).unwrap().freely_reduced();
+            let mut search = Search::default();
             loop {
                 let letters = |word: &Word| word.letters().to_vec();
                 let built: Vec<Vec<u8>> = system.words().iter().map(letters).collect();
                 let shortening = built_shortening(&built);
-                assert_eq!(first_shortening(system.words()), shortening);
+                assert_eq!(search.first_shortening(system.words()), shortening);
                 let step = match shortening {
                     Some(step) => {
                         shortenings += 1;
@@ -243,7 +314,7 @@ mod tests {
                     }
                     None => {
                         let half_end = built_half_end_move(&built);
-                        assert_eq!(half_end_move(system.words()), half_end);
+                        assert_eq!(search.half_end_move(system.words()), half_end);
                         let Some(step) = half_end else { break };
                         half_ends += 1;
                         step
@@ -252,6 +323,7 @@ mod tests {
                 assert!(step.make(system.words_mut()));
                 let expected = result(step.form, &built[step.other], &built[step.changed]);
                 assert_eq!(system.words()[step.changed].letters(), expected);
+                search.forget(step.changed);
             }
         }
         assert!(

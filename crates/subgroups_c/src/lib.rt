@@ -2,9 +2,14 @@
 ghost use mathlib.Core.Path.{_≡_};
 ghost use Rattle.records.specs.Answers.{verdictNumber, refusalNumber, refusalPlace};
 ghost use Rattle.records.specs.Calls.{tidyAnswer, tidyBuffer};
-ghost use Rattle.subgroups_c.specs.Numbers.{plainNumbers};
+ghost use Rattle.replay.specs.Replay.{replayAnswer, replayBuffer};
+ghost use Rattle.multiply.specs.Multiply.{multiplyAnswer, multiplyBuffer};
+ghost use Rattle.reduction.specs.Reduction.{testAnswer, reduceAnswer, reduceWords, reduceLog};
+ghost use Rattle.subgroups_c.specs.Numbers.{isBackward, oneOrZero, plainNumbers, testNumbers, reductionNumbers};
 use records::answers::Answer;
 use records::answers::Verdict;
+use reduction::answers::Reduction;
+use reduction::answers::Tested;
 
 // A verdict as a number.
 fn verdict_number(v: Verdict) -> u64
@@ -58,6 +63,45 @@ fn plain_numbers(answer: Answer) -> [u64; 7]
     ]
 }
 
+// 1 for yes and 0 for no.
+fn one_or_zero(yes: bool) -> u64
+    ensures { λ r. ⌜ r ≡ oneOrZero yes ⌝ }
+{
+    if yes { 1 } else { 0 }
+}
+
+// The numbers of test's answer.
+fn test_numbers(answer: Tested) -> [u64; 7]
+    ensures { λ r. ⌜ r ≡ testNumbers answer ⌝ }
+{
+    let v = answer.verdict;
+    [
+        verdict_number(v),
+        refusal_number(v),
+        refusal_place(v),
+        0,
+        0,
+        0,
+        one_or_zero(answer.reduced),
+    ]
+}
+
+// The numbers of the answer of reduce.
+fn reduction_numbers(answer: Reduction) -> [u64; 7]
+    ensures { λ r. ⌜ r ≡ reductionNumbers answer ⌝ }
+{
+    let v = answer.verdict;
+    [
+        verdict_number(v),
+        refusal_number(v),
+        refusal_place(v),
+        answer.moves as u64,
+        answer.rank as u64,
+        one_or_zero(answer.independent),
+        0,
+    ]
+}
+
 // Tidy: each record of a system, freely reduced, into the same slot of the words buffer.
 #[no_mangle]
 pub extern "C" fn subgroups_tidy(system: &[u8], words: &mut [u8], numbers: &mut [u64; 7])
@@ -66,4 +110,60 @@ pub extern "C" fn subgroups_tidy(system: &[u8], words: &mut [u8], numbers: &mut 
 {
     let answer = records::tidy::tidy(system, words);
     *numbers = plain_numbers(answer);
+}
+
+// Replay: the words after the moves of a log, which are run backward where `backward` is not 0.
+#[no_mangle]
+pub extern "C" fn subgroups_replay(
+    system: &[u8],
+    log: &[u8],
+    backward: u8,
+    words: &mut [u8],
+    numbers: &mut [u64; 7],
+)
+    ensures words { λ _. ⌜ now (words .exit) ≡ replayBuffer (now (system .entry)) (now (log .entry)) (isBackward backward) (now (words .entry)) ⌝ }
+    ensures numbers { λ _. ⌜ now (numbers .exit) ≡ plainNumbers (replayAnswer (now (system .entry)) (now (log .entry)) (isBackward backward) (now (words .entry))) ⌝ }
+{
+    let answer = replay::replay(system, log, backward != 0, words);
+    *numbers = plain_numbers(answer);
+}
+
+// Multiply: the freely reduced word that a product over a system's slots multiplies out to.
+#[no_mangle]
+pub extern "C" fn subgroups_multiply(
+    system: &[u8],
+    product: &[u8],
+    word: &mut [u8],
+    numbers: &mut [u64; 7],
+)
+    ensures word { λ _. ⌜ now (word .exit) ≡ multiplyBuffer (now (system .entry)) (now (product .entry)) (now (word .entry)) ⌝ }
+    ensures numbers { λ _. ⌜ now (numbers .exit) ≡ plainNumbers (multiplyAnswer (now (system .entry)) (now (product .entry)) (now (word .entry))) ⌝ }
+{
+    let answer = multiply::multiply(system, product, word);
+    *numbers = plain_numbers(answer);
+}
+
+// Test: whether the freely reduced words of a system are reduced.
+#[no_mangle]
+pub extern "C" fn subgroups_test(system: &[u8], numbers: &mut [u64; 7])
+    ensures { λ _. ⌜ now (numbers .exit) ≡ testNumbers (testAnswer (now (system .entry))) ⌝ }
+{
+    let answer = reduction::test::test(system);
+    *numbers = test_numbers(answer);
+}
+
+// Reduce: the reduced words and the log of the moves.
+#[no_mangle]
+pub extern "C" fn subgroups_reduce(
+    system: &[u8],
+    words: &mut [u8],
+    log: &mut [u8],
+    numbers: &mut [u64; 7],
+)
+    ensures words { λ _. ⌜ now (words .exit) ≡ reduceWords (now (system .entry)) (now (words .entry)) (now (log .entry)) ⌝ }
+    ensures log { λ _. ⌜ now (log .exit) ≡ reduceLog (now (system .entry)) (now (words .entry)) (now (log .entry)) ⌝ }
+    ensures numbers { λ _. ⌜ now (numbers .exit) ≡ reductionNumbers (reduceAnswer (now (system .entry)) (now (words .entry)) (now (log .entry))) ⌝ }
+{
+    let answer = reduction::reduce::reduce(system, words, log);
+    *numbers = reduction_numbers(answer);
 }

@@ -19,8 +19,6 @@ module _ {A : Type 0} (G : Letters A) (L : LetterLaws G) where
   open Letters G using (flip)
   open LetterLaws L using (twice)
 
-  -- ---- common beginnings
-
   pub common-same : (x y : A) (u v : List A) → x ≡ y → common G (x ∷ u) (y ∷ v) ≡ suc (common G u v)
   common-same x y u v e = rw (same-yes G L x y e)
 
@@ -107,8 +105,6 @@ module _ {A : Type 0} (G : Letters A) (L : LetterLaws G) where
     | no n ↦ absurd (omega (arith, common-differ x y u v n))
   ]
 
-  -- ---- counting up a common beginning, letter by letter
-
   pub common-more : (u v : List A) (i : ℕ) (d e : A) → i ≤ common G u v → i < length u → i < length v → getD u i d ≡ getD v i e
       → suc i ≤ common G u v
   common-more u v i d e c h k g = common-most (suc i) u v h
@@ -151,8 +147,6 @@ module _ {A : Type 0} (G : Letters A) (L : LetterLaws G) where
 
   pub common-whole : (u v : List A) → common G u v ≡ length u → common G u v ≡ length v → u ≡ v
   common-whole u v e f = sym (common-begins u v e) ∙ rw (← e, f) (take-length v)
-
-  -- ---- cancellation
 
   pub cancelled-common : (u v : List A) → cancelled G u v ≡ common G (inverse G u) v
   unfolding cancelled
@@ -254,8 +248,6 @@ module _ {A : Type 0} (G : Letters A) (L : LetterLaws G) where
       rw (reduce-cancelled u v h k)
       (drop-at (take (length u - c) u) (drop c v) (length u - c) (length-take-le (length u - c) u (omega arith)))
 
-  -- ---- products shorter than a factor: the four forms of a move
-
   -- "w(i) w(k)" is shorter than w(k)
   pub shorter-before : (u v : List A) → Irreducible G u → Irreducible G v
       → (length (reduce G (u ++ v)) < length v) ↔ (length u < 2 * cancelled G u v)
@@ -276,8 +268,6 @@ module _ {A : Type 0} (G : Letters A) (L : LetterLaws G) where
       → (length (reduce G (u ++ inverse G v)) < length u) ↔ (length v < 2 * common G (inverse G u) (inverse G v))
   shorter-inverse-after u v h k = simp (inverse-length G L, cancelled-inverse-right) at (shorter-after u (inverse G v) h (inverse-irreducible G L v k))
 
-  -- ---- words that join without cancelling
-
   pub irreducible-append : (u v : List A) → Irreducible G u → Irreducible G v → cancelled G u v ≡ 0 → Irreducible G (u ++ v)
   irreducible-append u v h k e = irreducible-of-same G L (u ++ v) (rw (e, sub-zero, take-length) at (reduce-cancelled u v h k))
 
@@ -288,8 +278,6 @@ module _ {A : Type 0} (G : Letters A) (L : LetterLaws G) where
     ap length (reduce-same G L (u ++ v) h),
     length-cancelled u v (irreducible-prefix G L u v h) (irreducible-suffix G L u v h),
   )
-
-  -- ---- a word against itself
 
   -- half of a word of even length: the word would be an inverse and the word after it
   self-even : (w : List A) (m : ℕ) → Irreducible G w → length w ≡ m + m → m ≤ cancelled G w w → 0 < length w → ⊥

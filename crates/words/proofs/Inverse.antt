@@ -48,8 +48,6 @@ module _ {A : Type 0} (G : Letters A) (L : LetterLaws G) where
   pub inverse-turn : (u v : List A) → u ≡ inverse G v → v ≡ inverse G u
   inverse-turn u v e = rw e (sym (inverse-twice v))
 
-  -- ---- the inverse and free reduction
-
   pub inverse-irreducible : (w : List A) → Irreducible G w → Irreducible G (inverse G w)
   inverse-irreducible [] h = rw inverse-nil tt
   inverse-irreducible (x ∷ []) h = rw inverse-singleton tt
@@ -105,8 +103,6 @@ module _ {A : Type 0} (G : Letters A) (L : LetterLaws G) where
 
   pub inverse-unique : (u v : List A) → reduce G (u ++ v) ≡ [] → reduce G v ≡ reduce G (inverse G u)
   inverse-unique u v e = rw (e, append-nil) at (sym (reduce-undo-left u v))
-
-  -- ---- parts of the inverse
 
   pub inverse-split : (n : ℕ) (w : List A) → inverse G w ≡ inverse G (drop n w) ++ inverse G (take n w)
   inverse-split n w = ap (inverse G) (sym (take-append-drop n w)) ∙ inverse-append (take n w) (drop n w)

@@ -13,8 +13,6 @@ module _ {A : Type 0} (G : Letters A) (L : LetterLaws G) where
   open Letters G using (flip)
   open LetterLaws L using (twice)
 
-  -- ---- one letter before a word
-
   pub push-cancel : (x y : A) (w : List A) → y ≡ flip x → push G x (y ∷ w) ≡ w
   push-cancel x y w e = rw (same-yes G L y (flip x) e)
 
@@ -59,8 +57,6 @@ module _ {A : Type 0} (G : Letters A) (L : LetterLaws G) where
     | no n ↦ rw (push-keep x y w n) (omega arith)
   ]
 
-  -- ---- what reduction leaves
-
   -- "Free reduction removes neighbours of the kind aA or Aa until none are left"
   pub reduce-irreducible : (w : List A) → Irreducible G (reduce G w)
   reduce-irreducible [] = tt
@@ -79,8 +75,6 @@ module _ {A : Type 0} (G : Letters A) (L : LetterLaws G) where
   pub length-reduce : (w : List A) → length (reduce G w) ≤ length w
   length-reduce [] = omega arith
   length-reduce (x ∷ w) = omega (arith, length-push x (reduce G w), length-reduce w)
-
-  -- ---- parts of an irreducible word, and words put together
 
   pub irreducible-prefix : (u v : List A) → Irreducible G (u ++ v) → Irreducible G u
   irreducible-prefix [] v h = tt
@@ -121,8 +115,6 @@ module _ {A : Type 0} (G : Letters A) (L : LetterLaws G) where
   pub irreducible-join : (u v : List A) (x y : A) → Irreducible G (u ++ (x ∷ [])) → Irreducible G (y ∷ v) → (y ≡ flip x → ⊥)
       → Irreducible G (u ++ (x ∷ y ∷ v))
   irreducible-join u v x y h k n = irreducible-overlap u (y ∷ v) x h (irreducible-cons x y v n k)
-
-  -- ---- reduction in parts
 
   -- the letters of a word, put one by one before another, the last first
   abbrev pub pushes : List A → List A → List A
@@ -176,8 +168,6 @@ module _ {A : Type 0} (G : Letters A) (L : LetterLaws G) where
   pub reduce-empty-right : (u v : List A) → reduce G v ≡ [] → reduce G (u ++ v) ≡ reduce G u
   reduce-empty-right u v e = rw (reduce-right u v, e, append-nil)
 
-  -- ---- the order of removal
-
   pub removed-reduce : {w v : List A} → Removed G w v → reduce G v ≡ reduce G w
   removed-reduce (removed b x a e f) = rw (e, f) (sym (reduce-pair b x a))
 
@@ -212,8 +202,6 @@ module _ {A : Type 0} (G : Letters A) (L : LetterLaws G) where
   removals-exist [] = none refl
   removals-exist (x ∷ w) = removals-then (removals-cons x (removals-exist w)) (removals-push x (reduce G w))
 
-  -- ---- a stack that takes the letters from the right
-
   pub reduce-cons-empty : (w : List A) (x : A) → reduce G w ≡ [] → reduce G (x ∷ w) ≡ x ∷ []
   reduce-cons-empty w x e = rw e
 
@@ -222,8 +210,6 @@ module _ {A : Type 0} (G : Letters A) (L : LetterLaws G) where
 
   pub reduce-cons-keep : (w u : List A) (x y : A) → reduce G w ≡ y ∷ u → (y ≡ flip x → ⊥) → reduce G (x ∷ w) ≡ x ∷ y ∷ u
   reduce-cons-keep w u x y e n = rw e (push-keep x y u n)
-
-  -- ---- a stack that takes the letters from the left
 
   pub reduce-snoc-empty : (w : List A) (x : A) → reduce G w ≡ [] → reduce G (w ++ (x ∷ [])) ≡ x ∷ []
   reduce-snoc-empty w x e = rw (reduce-left w (x ∷ []), e)

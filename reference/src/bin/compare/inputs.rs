@@ -1,5 +1,5 @@
-//! Inputs shared by the comparisons of several entries: the sheets, lengths around every limit,
-//! damaged records, and random systems of many kinds.
+//! Inputs shared by the comparisons of the entries: the sheets, lengths around every limit,
+//! damaged records, systems with two faults at once, and random systems of many kinds.
 
 use subgroups_reference::random::{Kind, Random};
 use subgroups_reference::records::{system, MOST_RECORDS, RECORD};
@@ -10,6 +10,9 @@ pub const GENERATORS: [usize; 5] = [1, 2, 3, 5, 26];
 
 /// The shortest and longest words of random systems, short ones and ones near 63 letters.
 pub const LENGTHS: [(usize, usize); 6] = [(0, 3), (0, 8), (4, 16), (0, 63), (55, 63), (63, 63)];
+
+/// Lengths far beyond every limit, which end in many zeros as binary numbers.
+pub const LONG_LENGTHS: [usize; 3] = [1 << 8, 1 << 16, 1 << 20];
 
 /// Bytes at and around the ends of what a record may hold.
 pub const TELLING_BYTES: [u8; 22] = [
@@ -46,7 +49,7 @@ pub fn blank_system() -> Vec<u8> {
     system(&[""; MOST_RECORDS])
 }
 
-/// Lends the system with one byte after another set to one value after another.
+/// Lends the bytes with one after another set to one value after another.
 pub fn for_each_changed_byte(
     base: &[u8],
     places: impl Iterator<Item = usize>,
@@ -63,6 +66,101 @@ pub fn for_each_changed_byte(
     }
 }
 
+/// Lends systems of every length from 0 to 1200, well formed as far as they go, and of any bytes.
+pub fn for_each_length(mut lend: impl FnMut(&[u8])) {
+    let mut random = Random::new(103);
+    let well_formed = system(&["abBc"; 19]);
+    for length in 0..=1200 {
+        lend(&well_formed[..length]);
+        let any: Vec<u8> = (0..length).map(|_| random.byte()).collect();
+        lend(&any);
+    }
+    let long = well_formed[..RECORD].repeat(LONG_LENGTHS[2] / RECORD + 2);
+    for length in LONG_LENGTHS {
+        for more in [0, 1, RECORD] {
+            lend(&long[..length + more]);
+        }
+    }
+}
+
+/// Lends systems with one byte changed: rules 3, 4 and 5 at each place of each record, and rule 2.
+pub fn for_each_malformed_system(mut lend: impl FnMut(&[u8])) {
+    let whole = RECORD * MOST_RECORDS;
+    let mixed = mixed_system();
+    for base in [&mixed, &full_system(), &blank_system()] {
+        for_each_changed_byte(base, 0..whole, &TELLING_BYTES, &mut lend);
+    }
+    for length in (RECORD..whole).step_by(RECORD) {
+        let last = length - RECORD..length;
+        for_each_changed_byte(&mixed[..length], last, &TELLING_BYTES, &mut lend);
+    }
+    let too_many = [&mixed[..], &mixed[..RECORD]].concat();
+    for_each_changed_byte(&too_many, 0..whole + RECORD, b"\0a", &mut lend);
+}
+
+/// Lends a system with two faults in one record: the order of rules 3, 4 and 5, and the first byte.
+pub fn for_each_two_faults(mut lend: impl FnMut(&[u8])) {
+    let base = system(&["abc", "cBAaA", "b"]);
+    for one in RECORD..2 * RECORD {
+        for two in one + 1..2 * RECORD {
+            for (first, second) in [(b'a', b'a'), (b'a', b'?'), (b'?', b'a'), (b'?', b'?')] {
+                let mut changed = base.clone();
+                changed[one] = first;
+                changed[two] = second;
+                lend(&changed);
+            }
+        }
+    }
+}
+
+/// A well-formed system of a one-letter word, a word of 63 letters and two short ones, then the
+/// same broken by each of the rules 1 to 5 and by two of them at once.
+pub fn sound_and_refused_systems() -> Vec<Vec<u8>> {
+    let sound = system(&["b", &"a".repeat(RECORD - 1), "a", "cB"]);
+    let faults = [
+        (RECORD - 1, b'.'),
+        (7, b'?'),
+        (9, b'x'),
+        (2 * RECORD - 1, b' '),
+        (2 * RECORD - 3, b'\n'),
+        (3 * RECORD - 1, b'a'),
+        (2 * RECORD + 5, 0),
+        (2 * RECORD + 5, b'b'),
+    ];
+    let mut systems = vec![sound.clone()];
+    for (index, &(place, byte)) in faults.iter().enumerate() {
+        let mut one_fault = sound.clone();
+        one_fault[place] = byte;
+        for &(other_place, other_byte) in &faults[index + 1..] {
+            let mut two_faults = one_fault.clone();
+            two_faults[other_place] = other_byte;
+            systems.push(two_faults);
+        }
+        systems.push(one_fault);
+    }
+    for base in systems.clone() {
+        systems.push(base[..base.len() - 1].to_vec());
+        let too_many = base.repeat(5);
+        systems.push(too_many[..RECORD * (MOST_RECORDS + 1)].to_vec());
+        systems.push(too_many[..RECORD * (MOST_RECORDS + 1) + 1].to_vec());
+    }
+    systems
+}
+
+/// Lengths of a buffer around the one that is just long enough.
+pub fn rooms(exact: usize) -> [usize; 5] {
+    [0, exact.saturating_sub(1), exact, exact + 1, exact + 100]
+}
+
+/// A random length of a buffer, often just long enough and sometimes too short.
+pub fn any_room(random: &mut Random, exact: usize) -> usize {
+    match random.below(6) {
+        0 => random.below(exact + 1),
+        1 => exact + random.below(80),
+        _ => exact + random.below(3),
+    }
+}
+
 /// A random system over this many generators, of any kind and size.
 pub fn random_system(random: &mut Random, generators: usize) -> Vec<u8> {
     let (shortest, longest) = LENGTHS[random.below(LENGTHS.len())];
@@ -71,7 +169,7 @@ pub fn random_system(random: &mut Random, generators: usize) -> Vec<u8> {
     random.system(kind, generators, records, shortest, longest)
 }
 
-/// Damages a system in a few random places: any byte, one bit, or a telling byte.
+/// Damages bytes in a few random places: any byte, one bit, or a telling byte.
 pub fn damage(random: &mut Random, bytes: &mut [u8]) {
     if bytes.is_empty() {
         return;

@@ -4,6 +4,9 @@
 /// The length of the margin on either side of the lent part.
 const MARGIN: usize = 64;
 
+/// What stands in and around an answer before the call.
+const UNWRITTEN: u64 = 0xA5A5_5A5A_C3C3_3C3C;
+
 /// A buffer of which a part in the middle is lent.
 pub struct Lent {
     bytes: Vec<u8>,
@@ -12,7 +15,7 @@ pub struct Lent {
 
 impl Lent {
     /// A buffer from which nothing is lent yet.
-    pub fn new() -> Lent {
+    fn new() -> Lent {
         Lent {
             bytes: Vec::new(),
             length: 0,
@@ -20,22 +23,12 @@ impl Lent {
     }
 
     /// Fills the buffer with the pattern and sets the length of the lent part.
-    pub fn fill(&mut self, length: usize) {
-        let whole = length + 2 * MARGIN;
-        for place in self.bytes.len()..whole {
-            self.bytes.push(pattern(place));
-        }
-        self.bytes.truncate(whole);
+    fn fill(&mut self, length: usize) {
+        self.bytes.resize(length + 2 * MARGIN, 0);
         for (place, byte) in self.bytes.iter_mut().enumerate() {
             *byte = pattern(place);
         }
         self.length = length;
-    }
-
-    /// Fills the buffer with the pattern and copies an input into the lent part.
-    pub fn copy(&mut self, input: &[u8]) {
-        self.fill(input.len());
-        self.part().copy_from_slice(input);
     }
 
     /// The lent part.
@@ -43,15 +36,73 @@ impl Lent {
         &mut self.bytes[MARGIN..MARGIN + self.length]
     }
 
-    /// The first byte in which two buffers of one length differ, counted from the lent part's start.
-    pub fn difference(&self, other: &Lent) -> Option<(isize, u8, u8)> {
-        if self.bytes == other.bytes {
+    /// The lent part, to be read.
+    pub fn bytes(&self) -> &[u8] {
+        &self.bytes[MARGIN..MARGIN + self.length]
+    }
+}
+
+/// Two buffers alike: one to be lent to the proved library, one to the Rust version.
+pub struct Pair {
+    pub proved: Lent,
+    pub rust: Lent,
+}
+
+impl Pair {
+    /// Two buffers from which nothing is lent yet.
+    pub fn new() -> Pair {
+        Pair {
+            proved: Lent::new(),
+            rust: Lent::new(),
+        }
+    }
+
+    /// Fills both with the pattern and sets the length of their lent parts.
+    pub fn fill(&mut self, length: usize) {
+        self.proved.fill(length);
+        self.rust.fill(length);
+    }
+
+    /// Fills both with the pattern and copies an input into their lent parts.
+    pub fn copy(&mut self, input: &[u8]) {
+        self.fill(input.len());
+        self.proved.part().copy_from_slice(input);
+        self.rust.part().copy_from_slice(input);
+    }
+
+    /// The first byte in which the two differ, counted from the lent part's start.
+    pub fn difference(&self) -> Option<(isize, u8, u8)> {
+        let (one, two) = (&self.proved.bytes, &self.rust.bytes);
+        if one == two {
             return None;
         }
-        let mut pairs = self.bytes.iter().zip(&other.bytes);
-        let place = pairs.position(|(one, two)| one != two)?;
+        let place = one.iter().zip(two).position(|(one, two)| one != two)?;
         let counted = place as isize - MARGIN as isize;
-        Some((counted, self.bytes[place], other.bytes[place]))
+        Some((counted, one[place], two[place]))
+    }
+}
+
+/// Room for the library's answer, with a number on either side that no call may write.
+#[repr(C)]
+pub struct LentAnswer {
+    before: u64,
+    pub numbers: [u64; 7],
+    after: u64,
+}
+
+impl LentAnswer {
+    /// Room in which nothing is written yet.
+    pub fn new() -> LentAnswer {
+        LentAnswer {
+            before: UNWRITTEN,
+            numbers: [UNWRITTEN; 7],
+            after: UNWRITTEN,
+        }
+    }
+
+    /// Whether the numbers on either side are as they were.
+    pub fn alone_written(&self) -> bool {
+        self.before == UNWRITTEN && self.after == UNWRITTEN
     }
 }
 

@@ -1,0 +1,100 @@
+// One move on the words held in two arrays.
+ghost use mathlib.Core.Path.{_≡_};
+ghost use mathlib.Core.Bool.{true};
+ghost use Prim.Native.Nat.{_≤_, _<_};
+ghost use lib.ListN.{length, take, set};
+ghost use lib.Dec.{leb};
+ghost use Rattle.words.specs.Letters.{bytes};
+ghost use Rattle.words.specs.Words.{reduce};
+ghost use Rattle.systems.specs.Products.{Tidy};
+ghost use Rattle.systems.specs.Moves.{formed, movedWord, made};
+ghost use Rattle.systems.specs.Rules.{formAt};
+ghost use Rattle.records.specs.Held.{held, Short};
+ghost use Rattle.moves.specs.Logs.{moveOf};
+use crate::log::Step;
+use crate::product::push_inverse;
+use crate::product::push_word;
+use records::record::RECORD;
+use records::system::length_of;
+
+// The freely reduced product of one of the four forms, at the beginning of a buffer, and its length.
+pub fn form_word(form: usize, other: &[u8], changed: &[u8], out: &mut [u8]) -> usize
+    requires { ⌜ form < 4 ⌝ }
+    requires { ⌜ (length (now other) ≤ 63) × (length (now changed) ≤ 63) × (128 ≤ length (now out)) ⌝ }
+    requires { ⌜ reduce bytes (now other) ≡ now other ⌝ }
+    requires { ⌜ reduce bytes (now changed) ≡ now changed ⌝ }
+    ensures within { λ r. ⌜ r ≤ length (now (out .exit)) ⌝ }
+    ensures word { λ r. ⌜ take r (now (out .exit)) ≡ reduce bytes (formed bytes (formAt form) (now (other .entry)) (now (changed .entry))) ⌝ }
+{
+    if form == 0 {
+        let n = push_word(out, 0, other);
+        return push_word(out, n, changed);
+    }
+    if form == 1 {
+        let n = push_inverse(out, 0, other);
+        return push_word(out, n, changed);
+    }
+    if form == 2 {
+        let n = push_word(out, 0, changed);
+        return push_word(out, n, other);
+    }
+    let n = push_word(out, 0, changed);
+    push_inverse(out, n, other)
+}
+
+// The word that a move puts into its slot, at the beginning of a buffer, and its length.
+fn step_word(letters: &[u8], lengths: &[usize], n: usize, m: Step, out: &mut [u8]) -> usize
+    requires { ⌜ (n ≤ 16) × (m .changed < n) × (m .other < n) × (m .form < 4) ⌝ }
+    requires { ⌜ length (now letters) ≡ 1024 ⌝ }
+    requires { ⌜ length (now lengths) ≡ 16 ⌝ }
+    requires { ⌜ Short (now lengths) ⌝ }
+    requires { ⌜ Tidy bytes (held n (now letters) (now lengths)) ⌝ }
+    requires { ⌜ 128 ≤ length (now out) ⌝ }
+    ensures size { λ r. ⌜ r ≡ length (movedWord bytes (held n (now (letters .entry)) (now (lengths .entry))) (moveOf m)) ⌝ }
+    ensures word { λ r. ⌜ take r (now (out .exit)) ≡ movedWord bytes (held n (now (letters .entry)) (now (lengths .entry))) (moveOf m) ⌝ }
+{
+    let form = m.form;
+    let k = m.changed;
+    let i = m.other;
+    let at = k * RECORD;
+    let stop = at + length_of(lengths, k);
+    let from = i * RECORD;
+    let to = from + length_of(lengths, i);
+    form_word(form, &letters[from..to], &letters[at..stop], out)
+}
+
+// Puts a word into a slot.
+pub fn put_word(letters: &mut [u8], lengths: &mut [usize], n: usize, k: usize, word: &[u8])
+    requires { ⌜ (n ≤ 16) × (k < n) × (length (now word) ≤ 63) ⌝ }
+    requires { ⌜ length (now letters) ≡ 1024 ⌝ }
+    requires { ⌜ length (now lengths) ≡ 16 ⌝ }
+    requires { ⌜ Short (now lengths) ⌝ }
+    ensures words { λ _. ⌜ held n (now (letters .exit)) (now (lengths .exit)) ≡ set (held n (now (letters .entry)) (now (lengths .entry))) k (now (word .entry)) ⌝ }
+    ensures short { λ _. ⌜ Short (now (lengths .exit)) ⌝ }
+{
+    let at = k * RECORD;
+    let end = at + RECORD;
+    records::record::copy(word, &mut letters[at..end]);
+    lengths[k] = word.len();
+}
+
+// Makes a move, and answers whether its word has at most 63 letters; where it has more, nothing is made.
+pub fn make_move(letters: &mut [u8], lengths: &mut [usize], n: usize, m: Step) -> bool
+    requires { ⌜ (n ≤ 16) × (m .changed < n) × (m .other < n) × (m .form < 4) ⌝ }
+    requires { ⌜ length (now letters) ≡ 1024 ⌝ }
+    requires { ⌜ length (now lengths) ≡ 16 ⌝ }
+    requires { ⌜ Short (now lengths) ⌝ }
+    requires { ⌜ Tidy bytes (held n (now letters) (now lengths)) ⌝ }
+    ensures fits { λ r. ⌜ r ≡ leb (length (movedWord bytes (held n (now (letters .entry)) (now (lengths .entry))) (moveOf m))) 63 ⌝ }
+    ensures made { λ r. ⌜ (r ≡ true → held n (now (letters .exit)) (now (lengths .exit)) ≡ made bytes (held n (now (letters .entry)) (now (lengths .entry))) (moveOf m)) ⌝ }
+    ensures short { λ _. ⌜ Short (now (lengths .exit)) ⌝ }
+{
+    let k = m.changed;
+    let mut out = [0u8; 128];
+    let size = step_word(letters, lengths, n, m, &mut out);
+    if size > 63 {
+        return false;
+    }
+    put_word(letters, lengths, n, k, &out[0..size]);
+    true
+}

@@ -1,0 +1,90 @@
+-- The call multiply: its tests in their order, what they leave to the code after them, and the answer and the buffer from the word that
+-- comes out. Refusal 12 looks at the length of that word alone, not at what stood in the row on the way.
+use Prim.Native.Nat.{ℕ, _-_, _/_, _≤_, _<_}
+use mathlib.Core.Path.{_≡_, sym, ap, _∙_}
+use mathlib.Core.List.{List, _++_}
+use native.Mathlib.Omega.{arith}
+use borrow.Author.Tests.{le-leb, lt-leb}
+use lib.ListN.{length, take, drop}
+use lib.Seq.{length-take-le}
+use Rattle.records.specs.Records.{slots, recordOf, written}
+use Rattle.records.specs.Refusals.{refusal, systemRules, wordRoom, _andThen_}
+use Rattle.records.specs.declared.answers.Refusal.{Refusal}
+use Rattle.records.specs.declared.answers.Checked.{Checked}
+use Rattle.records.specs.declared.answers.Checked.the-variants.{Fine, Failed}
+use Rattle.records.proofs.Rules.{then-failed, then-fine}
+use Rattle.records.proofs.Systems.{record-length}
+use Rattle.records.proofs.Calls.{fine-first, fine-next, system-size, room-enough}
+use Rattle.multiply.specs.Targets.{targetRules, slotRule}
+use Rattle.multiply.specs.Multiply.{productWord, multiplyTests, multiplyRules}
+use Rattle.multiply.proofs.Targets.{target-sized}
+
+-- the tests of multiply, in their order
+module _ (s p : List ℕ) (room : ℕ) where
+  pub tests-system : {x : Checked} {f : Refusal} → x ≡ systemRules s → x ≡ Failed f → x ≡ multiplyTests s p room
+  unfolding multiplyTests
+  tests-system e h = then-failed _ _ e h
+
+  module _ {q : Checked} (system : q ≡ systemRules s) (passed : q ≡ Fine) where
+    pub tests-target : {x : Checked} {f : Refusal} → x ≡ targetRules p → x ≡ Failed f → x ≡ multiplyTests s p room
+    unfolding multiplyTests
+    tests-target e h = then-fine _ _ system passed (then-failed _ _ e h)
+
+    module _ {t : Checked} (target : t ≡ targetRules p) (passed₂ : t ≡ Fine) where
+      pub tests-slots : {x : Checked} {f : Refusal} → x ≡ slotRule (length s / 64) p → x ≡ Failed f → x ≡ multiplyTests s p room
+      unfolding multiplyTests
+      tests-slots e h = then-fine _ _ system passed (then-fine _ _ target passed₂ (then-failed _ _ e h))
+
+      pub tests-room : {u x : Checked} → u ≡ slotRule (length s / 64) p → u ≡ Fine → x ≡ wordRoom 64 room → x ≡ multiplyTests s p room
+      unfolding multiplyTests
+      tests-room e h told = then-fine _ _ system passed (then-fine _ _ target passed₂ (then-fine _ _ e h told))
+
+-- what the tests leave, and the whole answer
+module _ (s p : List ℕ) (room : ℕ) {x : Checked} (tests : x ≡ multiplyTests s p room) where
+  pub rules-failed : {f : Refusal} → x ≡ Failed f → x ≡ multiplyRules s p room
+  unfolding multiplyRules
+  rules-failed h = then-failed _ _ tests h
+
+  module _ (passed : x ≡ Fine) where
+    past-system : targetRules p andThen slotRule (slots s) p andThen wordRoom 64 room ≡ Fine
+    unfolding multiplyTests
+    past-system = fine-next (systemRules s) _ (sym tests ∙ passed)
+
+    past-target : slotRule (slots s) p andThen wordRoom 64 room ≡ Fine
+    past-target = fine-next (targetRules p) _ past-system
+
+    pub passed-size : length s ≤ 1024
+    unfolding multiplyTests
+    passed-size = system-size s (fine-first (systemRules s) _ (sym tests ∙ passed))
+
+    pub passed-product : length p ≡ 64
+    passed-product = target-sized p (fine-first (targetRules p) _ past-system)
+
+    pub passed-slots : slotRule (slots s) p ≡ Fine
+    passed-slots = fine-first (slotRule (slots s) p) _ past-target
+
+    pub passed-room : 64 ≤ room
+    passed-room = room-enough 64 room (fine-next (slotRule (slots s) p) _ past-target)
+
+    module _ (row : List ℕ) (size : ℕ) (told : take size row ≡ productWord s p) (within : size ≤ 4096) (full : length row ≡ 4096) where
+      comes-to : length (productWord s p) ≡ size
+      comes-to = ap length (sym told) ∙ length-take-le size row (omega arith)
+
+      -- refusal 12
+      pub rules-long : {y : Checked} → 63 < size → y ≡ refusal 12 0 → y ≡ multiplyRules s p room
+      unfolding multiplyRules
+      rules-long h e = then-fine _ _ tests passed (rw (lt-leb (length (productWord s p)) 63 (omega (arith, comes-to))) e)
+
+      pub rules-fine : size ≤ 63 → x ≡ multiplyRules s p room
+      unfolding multiplyRules
+      rules-fine h = then-fine _ _ tests passed (rw (le-leb (length (productWord s p)) 63 (omega (arith, comes-to))) passed)
+
+      -- the record of that word at the beginning of the buffer, and the bytes after it as they were
+      pub word-written : {y : List ℕ} (buffer : List ℕ) → size ≤ 63 → y ≡ recordOf (take (size - 0) row)
+          → y ++ drop 64 buffer ≡ written (recordOf (productWord s p)) buffer
+      word-written {y} buffer h e =
+          let same : size - 0 ≡ size = omega arith in
+          let word-is : take (size - 0) row ≡ productWord s p = ap (λ (k : ℕ). take k row) same ∙ told in
+          let long : 64 ≡ length (recordOf (productWord s p)) = sym (record-length (productWord s p) (omega (arith, comes-to))) in
+          ap (λ (l : List ℕ). l ++ drop 64 buffer) (e ∙ ap recordOf word-is)
+          ∙ ap (λ (k : ℕ). recordOf (productWord s p) ++ drop k buffer) long

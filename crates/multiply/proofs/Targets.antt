@@ -1,0 +1,121 @@
+-- Records beside a system: the tests of a target or a product, refusals 6 and 9, case by case and letter by letter,
+-- and what a record that passes them tells of its length, its rules and the slots that it names.
+use Prim.Native.Nat.{ℕ, zero, suc, _+_, _-_, _≤_, _<_}
+use mathlib.Core.Path.{_≡_, refl, sym, ap, _∙_}
+use mathlib.Core.List.{List, [], _∷_, map}
+use native.Mathlib.Omega.{arith}
+use borrow.Author.Tests.{lt-ltb, le-ltb, eq-eqb, ne-eqb, ltb-true, eqb-true}
+use lib.Dec.{eqb}
+use lib.ListN.{length, take, drop, getD, drop-of-length-le}
+use lib.Seq.{length-take-le, getD-take}
+use Rattle.words.specs.Letters.{Letters}
+use Rattle.words.proofs.Letters.{LetterLaws}
+use Rattle.systems.specs.Products.{Over}
+use Rattle.systems.proofs.ProductLaws.{Named, named-over}
+use Rattle.records.specs.Records.{wordOf}
+use Rattle.records.specs.Refusals.{refusal, must, recordRules, eachByte}
+use Rattle.records.specs.declared.answers.Refusal.{Refusal}
+use Rattle.records.specs.declared.answers.Checked.{Checked}
+use Rattle.records.specs.declared.answers.Checked.the-variants.{Fine, Failed}
+use Rattle.records.proofs.Rows.{drop-here}
+use Rattle.records.proofs.Calls.{fine-first, fine-next, must-fine}
+use Rattle.multiply.specs.Targets.{factorOf, productOf, asSix, targetRules, hasSlot, slotRule}
+
+-- the slot that a letter names, by where it stands
+module _ (b : ℕ) where
+  pub slot-low : b < 65 → 0 ≡ factorOf b .slot
+  slot-low h = rw (lt-ltb b 97 (omega arith)) (omega arith)
+
+  pub slot-capital : b < 97 → b - 65 ≡ factorOf b .slot
+  slot-capital h = rw (lt-ltb b 97 h)
+
+  pub slot-small : 97 ≤ b → b - 97 ≡ factorOf b .slot
+  slot-small h = rw (le-ltb b 97 h)
+
+-- refusal 6, case by case
+module _ (r : List ℕ) where
+  pub target-short : {x : Checked} → (length r ≡ 64 → ⊥) → x ≡ refusal 6 0 → x ≡ targetRules r
+  unfolding targetRules
+  target-short bad e = rw (ne-eqb _ _ bad, e)
+
+  pub target-fine : {x : Checked} → length r ≡ 64 → x ≡ recordRules r 0 → x ≡ Fine → Fine ≡ targetRules r
+  unfolding targetRules
+  target-fine sized e h = rw (eq-eqb _ _ sized, ← e, h)
+
+  pub target-broken : {x y : Checked} {f : Refusal} → length r ≡ 64 → x ≡ recordRules r 0 → x ≡ Failed f → y ≡ refusal 6 (f .place)
+      → y ≡ targetRules r
+  unfolding targetRules
+  target-broken sized e h told = rw (eq-eqb _ _ sized, ← e, h, told)
+
+-- a refusal of a record is none of a target only where there is none
+pub six-fine : (c : Checked) → asSix c ≡ Fine → c ≡ Fine
+six-fine Fine e = refl
+six-fine (Failed f) e = let z : _≡_ {A = ℕ} 0 1 = cc in absurd (omega arith)
+
+-- a target that passes is 64 bytes long
+pub target-sized : (r : List ℕ) → targetRules r ≡ Fine → length r ≡ 64
+unfolding targetRules
+target-sized r e = eqb-true _ _ (must-fine _ 6 0 (fine-first (must (eqb (length r) 64) 6 0) _ e))
+
+pub target-told : {x : Checked} (r : List ℕ) → x ≡ targetRules r → x ≡ Fine → length r ≡ 64
+target-told r e h = target-sized r (sym e ∙ h)
+
+-- and it breaks no rule of a record
+pub target-record : (r : List ℕ) → targetRules r ≡ Fine → recordRules r 0 ≡ Fine
+unfolding targetRules
+target-record r e = six-fine _ (fine-next (must (eqb (length r) 64) 6 0) _ e)
+
+-- refusal 9, one letter of the product after the other
+module _ (n count i : ℕ) (r : List ℕ) (sized : length r ≡ 64) (short : count ≤ 63) (told : take count r ≡ wordOf r) where
+  counted : length (wordOf r) ≡ count
+  counted = ap length (sym told) ∙ length-take-le count r (omega arith)
+
+  pub letter-at : i < count → getD (wordOf r) i 0 ≡ getD r i 0
+  letter-at inside = ap (λ (l : List ℕ). getD l i 0) (sym told) ∙ getD-take count r i 0 inside
+
+  letter-here : i < count → drop i (wordOf r) ≡ getD r i 0 ∷ drop (i + 1) (wordOf r)
+  letter-here inside =
+      drop-here (wordOf r) i (rw counted inside) ∙ ap (λ (b : ℕ). b ∷ drop (i + 1) (wordOf r)) (letter-at inside)
+
+  module _ (here : slotRule n r ≡ eachByte (hasSlot n) 9 (drop i (wordOf r)) i) where
+    pub slots-fail : {x : Checked} {k : ℕ} → i < count → k ≡ factorOf (getD r i 0) .slot → n ≤ k → x ≡ refusal 9 i → x ≡ slotRule n r
+    slots-fail inside e bad f = rw (here, letter-here inside, ← e, le-ltb _ _ bad, f)
+
+    pub slots-pass : {k : ℕ} → i < count → k ≡ factorOf (getD r i 0) .slot → k < n
+        → slotRule n r ≡ eachByte (hasSlot n) 9 (drop (i + 1) (wordOf r)) (i + 1)
+    slots-pass inside e good = rw (here, letter-here inside, ← e, lt-ltb _ _ good)
+
+    pub slots-end : count ≤ i → Fine ≡ slotRule n r
+    slots-end l = rw (here, drop-of-length-le (wordOf r) {i = i} (omega (arith, counted)))
+
+pub slots-begin : (n : ℕ) (r : List ℕ) → slotRule n r ≡ eachByte (hasSlot n) 9 (drop 0 (wordOf r)) 0
+unfolding slotRule
+slots-begin n r = refl
+
+-- a row of letters that passes names only the first n slots
+passed-named : (n : ℕ) (w : List ℕ) (at : ℕ) → eachByte (hasSlot n) 9 w at ≡ Fine → Named (λ k. k < n) (map factorOf w)
+passed-named n [] at e = tt
+passed-named n (b ∷ w) at e = (
+  ltb-true _ _ (must-fine _ 9 at (fine-first (must (hasSlot n b) 9 at) _ e)),
+  passed-named n w (at + 1) (fine-next (must (hasSlot n b) 9 at) _ e),
+)
+
+named-at : (n : ℕ) (w : List ℕ) (i : ℕ) → Named (λ k. k < n) (map factorOf w) → i < length w → factorOf (getD w i 0) .slot < n
+named-at n [] i h inside = absurd (omega arith)
+named-at n (b ∷ w) zero h inside = h .0
+named-at n (b ∷ w) (suc i) h inside = named-at n w i h.1 (omega arith)
+
+-- a product that passes names only slots that the system has
+pub slots-named : (n : ℕ) (r : List ℕ) → slotRule n r ≡ Fine → Named (λ k. k < n) (productOf r)
+unfolding slotRule
+slots-named n r e = passed-named n (wordOf r) 0 e
+
+pub slots-over : {A : Type 0} (G : Letters A) (L : LetterLaws G) (S : List (List A)) (r : List ℕ) → slotRule (length S) r ≡ Fine
+    → Over G S (productOf r)
+slots-over G L S r e = named-over G L S (productOf r) (slots-named (length S) r e)
+
+pub slot-inside : (n count i : ℕ) (r : List ℕ) → length r ≡ 64 → count ≤ 63 → take count r ≡ wordOf r → i < count → slotRule n r ≡ Fine
+    → factorOf (getD r i 0) .slot < n
+slot-inside n count i r sized short told inside e =
+    rw (sym (letter-at n count i r sized short told inside))
+    (named-at n (wordOf r) i (slots-named n r e) (rw (counted n count i r sized short told) inside))

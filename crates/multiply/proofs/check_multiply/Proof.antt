@@ -1,0 +1,67 @@
+-- `multiply::check_multiply` meets its contract.
+use borrow.Author.Needs.{needs}
+use Rattle.multiply.proofs.Calls.{tests-system, tests-target, tests-slots, tests-room}
+use Rattle.multiply.proofs.Targets.{target-told}
+use Rattle.multiply.proofs.check_multiply.Statement.{statement}
+use Rattle.multiply.proofs.check_multiply.Tie as tie
+
+check-system-requires : tie.Need-check-system-requires
+check-system-requires c κs = search needs
+
+enum-told : tie.Need-enum-told
+enum-told c = search needs
+
+enum-told-2 : tie.Need-enum-told-2
+enum-told-2 c = search needs
+
+returns : tie.Need-returns
+returns c = search (tests-system, needs)
+
+check-target-requires : tie.Need-check-target-requires
+check-target-requires c κs = search needs
+
+enum-told-3 : tie.Need-enum-told-3
+enum-told-3 c = search needs
+
+enum-told-4 : tie.Need-enum-told-4
+enum-told-4 c = search needs
+
+returns-2 : tie.Need-returns-2
+returns-2 c = search (tests-target, needs)
+
+check-slots-requires : tie.Need-check-slots-requires
+check-slots-requires c κs = search (target-told, needs)
+
+enum-told-5 : tie.Need-enum-told-5
+enum-told-5 c = search needs
+
+enum-told-6 : tie.Need-enum-told-6
+enum-told-6 c = search needs
+
+returns-3 : tie.Need-returns-3
+returns-3 c = search (tests-slots, needs)
+
+check-room-requires : tie.Need-check-room-requires
+check-room-requires c κs = search needs
+
+returns-4 : tie.Need-returns-4
+returns-4 c = search (tests-room, needs)
+
+pub check-multiply-spec : {M : Type 1} → statement M
+check-multiply-spec =
+    tie.close
+    (tie.spec
+    check-system-requires
+    enum-told
+    enum-told-2
+    returns
+    check-target-requires
+    enum-told-3
+    enum-told-4
+    returns-2
+    check-slots-requires
+    enum-told-5
+    enum-told-6
+    returns-3
+    check-room-requires
+    returns-4)

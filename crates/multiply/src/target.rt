@@ -1,0 +1,51 @@
+// A target or a product beside a system: refusals 6 and 9, and the slot that a letter names.
+ghost use mathlib.Core.Path.{_≡_};
+ghost use lib.ListN.{length};
+ghost use Rattle.multiply.specs.Targets.{factorOf, targetRules, slotRule};
+use records::answers::Checked;
+use records::answers::refuse;
+use records::record::check_record;
+use records::record::word_length;
+
+// Refusal 6.
+pub fn check_target(target: &[u8]) -> Checked
+    ensures { λ r. ⌜ r ≡ targetRules (now (target .entry)) ⌝ }
+{
+    if target.len() != 64 {
+        return refuse(6, 0);
+    }
+    match check_record(target, 0) {
+        Checked::Fine => Checked::Fine,
+        Checked::Failed(refusal) => refuse(6, refusal.place),
+    }
+}
+
+// The slot that a letter of a product names.
+pub fn slot_of(b: u8) -> usize
+    ensures { λ r. ⌜ r ≡ factorOf b .slot ⌝ }
+{
+    if b < 65 {
+        return 0;
+    }
+    if b < 97 {
+        return b as usize - 65;
+    }
+    b as usize - 97
+}
+
+// Refusal 9: every letter of a product names one of the first n slots.
+pub fn check_slots(n: usize, product: &[u8]) -> Checked
+    requires { ⌜ length (now product) ≡ 64 ⌝ }
+    ensures { λ r. ⌜ r ≡ slotRule n (now (product .entry)) ⌝ }
+{
+    let count = word_length(product);
+    let mut i = 0;
+    while i < count {
+        let k = slot_of(product[i]);
+        if k >= n {
+            return refuse(9, i);
+        }
+        i += 1;
+    }
+    Checked::Fine
+}

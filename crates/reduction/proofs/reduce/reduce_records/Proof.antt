@@ -1,0 +1,84 @@
+-- `reduction::reduce::reduce_records` meets its contract.
+use borrow.Author.Needs.{needs}
+use Rattle.records.proofs.Calls.{short-zeros}
+use Rattle.reduction.proofs.Calls.{reduce-size, reduce-few, reduce-fits, early-answer, early-words, early-log, run-log, late-answer, late-words, done-answer, done-words}
+use Rattle.reduction.proofs.reduce.reduce_records.Statement.{statement}
+use Rattle.reduction.proofs.reduce.reduce_records.Tie as tie
+
+check-reduce-requires : tie.Need-check-reduce-requires
+check-reduce-requires c κs = search needs
+
+enum-told : tie.Need-enum-told
+enum-told c = search needs
+
+enum-told-2 : tie.Need-enum-told-2
+enum-told-2 c = search needs
+
+refused-requires : tie.Need-refused-requires
+refused-requires c κs = search needs
+
+returns : tie.Need-returns
+returns c = (search (early-answer, needs), (search (early-words, needs), search (early-log, needs)))
+
+slice-aggregate-reduce-held : tie.Need-slice-aggregate-reduce-held
+slice-aggregate-reduce-held c = search needs
+
+slice-aggregate-reduce-held-2 : tie.Need-slice-aggregate-reduce-held-2
+slice-aggregate-reduce-held-2 c = search needs
+
+reduce-held-requires : tie.Need-reduce-held-requires
+reduce-held-requires c κs = (search (reduce-size, needs), (search needs, (search needs, search (short-zeros, needs))))
+
+refuse-requires : tie.Need-refuse-requires
+refuse-requires c κs = search needs
+
+refused-requires-2 : tie.Need-refused-requires-2
+refused-requires-2 c κs = search needs
+
+same-length : tie.Need-same-length
+same-length c = search needs
+
+returns-2 : tie.Need-returns-2
+returns-2 c = (search (late-answer, needs), (search (late-words, needs), search (run-log, needs)))
+
+slice-aggregate-store : tie.Need-slice-aggregate-store
+slice-aggregate-store c = search needs
+
+slice-aggregate-store-2 : tie.Need-slice-aggregate-store-2
+slice-aggregate-store-2 c = search needs
+
+store-requires : tie.Need-store-requires
+store-requires c κs =
+    (search (reduce-few, needs), (search needs, (search needs, (search needs, search (reduce-fits, needs)))))
+
+same-length-2 : tie.Need-same-length-2
+same-length-2 c = search needs
+
+same-length-3 : tie.Need-same-length-3
+same-length-3 c = search needs
+
+returns-3 : tie.Need-returns-3
+returns-3 c = (search (done-answer, needs), (search (done-words, needs), search (run-log, needs)))
+
+pub reduce-records-spec : {M : Type 1} → statement M
+reduce-records-spec =
+    tie.close
+    (tie.spec
+    check-reduce-requires
+    enum-told
+    enum-told-2
+    refused-requires
+    returns
+    slice-aggregate-reduce-held
+    slice-aggregate-reduce-held-2
+    reduce-held-requires
+    refuse-requires
+    refused-requires-2
+    same-length
+    returns-2
+    slice-aggregate-store
+    slice-aggregate-store-2
+    store-requires
+    same-length-2
+    same-length-3
+    returns-3)

@@ -1,0 +1,77 @@
+-- `reduction::test::test_records` meets its contract.
+use borrow.Author.Needs.{needs}
+use Rattle.records.proofs.Calls.{short-zeros}
+use Rattle.reduction.proofs.Calls.{held-tidy, system-size-told, system-few-told, test-refused, test-more, test-none}
+use Rattle.reduction.proofs.Marking.{marked-none}
+use Rattle.reduction.proofs.test.test_records.Statement.{statement}
+use Rattle.reduction.proofs.test.test_records.Tie as tie
+
+check-system-requires : tie.Need-check-system-requires
+check-system-requires c κs = search needs
+
+enum-told : tie.Need-enum-told
+enum-told c = search needs
+
+enum-told-2 : tie.Need-enum-told-2
+enum-told-2 c = search needs
+
+untested-requires : tie.Need-untested-requires
+untested-requires c κs = search needs
+
+returns : tie.Need-returns
+returns c = search (test-refused, needs)
+
+slice-aggregate-load : tie.Need-slice-aggregate-load
+slice-aggregate-load c = search needs
+
+slice-aggregate-load-2 : tie.Need-slice-aggregate-load-2
+slice-aggregate-load-2 c = search needs
+
+load-requires : tie.Need-load-requires
+load-requires c κs = (search (system-size-told, needs), (search needs, (search needs, search (short-zeros, needs))))
+
+slice-aggregate-find-move : tie.Need-slice-aggregate-find-move
+slice-aggregate-find-move c = search needs
+
+slice-aggregate-find-move-2 : tie.Need-slice-aggregate-find-move-2
+slice-aggregate-find-move-2 c = search needs
+
+slice-aggregate-find-move-3 : tie.Need-slice-aggregate-find-move-3
+slice-aggregate-find-move-3 c = search needs
+
+find-move-requires : tie.Need-find-move-requires
+find-move-requires c κs =
+    (search (system-few-told, needs), (search needs, (search needs, (search needs, (search (held-tidy, needs), (search needs, search (marked-none, needs)))))))
+
+enum-told-3 : tie.Need-enum-told-3
+enum-told-3 c = search needs
+
+enum-told-4 : tie.Need-enum-told-4
+enum-told-4 c = search needs
+
+returns-2 : tie.Need-returns-2
+returns-2 c = search (test-more, needs)
+
+returns-3 : tie.Need-returns-3
+returns-3 c = search (test-none, needs)
+
+pub test-records-spec : {M : Type 1} → statement M
+test-records-spec =
+    tie.close
+    (tie.spec
+    check-system-requires
+    enum-told
+    enum-told-2
+    untested-requires
+    returns
+    slice-aggregate-load
+    slice-aggregate-load-2
+    load-requires
+    slice-aggregate-find-move
+    slice-aggregate-find-move-2
+    slice-aggregate-find-move-3
+    find-move-requires
+    enum-told-3
+    enum-told-4
+    returns-2
+    returns-3)

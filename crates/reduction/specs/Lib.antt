@@ -1,0 +1,3 @@
+pub mod Searches
+pub mod Reduction
+pub mod Meaning

@@ -1,0 +1,46 @@
+-- What the answers of reduce and test mean, over the lent buffers alone: the second demand of the owner.
+use Prim.Native.Nat.{ℕ, _*_, _≤_}
+use mathlib.Core.Path.{_≡_}
+use mathlib.Core.Logic.{_↔_}
+use mathlib.Core.Bool.{true, false}
+use mathlib.Core.List.{List}
+use lib.ListN.{take}
+use Rattle.words.specs.Letters.{bytes}
+use Rattle.systems.specs.Products.{Equivalent, IndependentWords}
+use Rattle.systems.specs.Reduced.{Reduced}
+use Rattle.systems.specs.Rank.{rank}
+use Rattle.records.specs.Records.{slots, systemOf}
+use Rattle.records.specs.Refusals.{systemRules}
+use Rattle.records.specs.Calls.{reducedWords}
+use Rattle.records.specs.declared.answers.Checked.the-variants.{Fine}
+use Rattle.records.specs.declared.answers.Verdict.the-variants.{Done}
+use Rattle.moves.specs.Logs.{moveSize, movesIn}
+use Rattle.replay.specs.Replay.{replayRules, replayed}
+use Rattle.reduction.specs.declared.answers.Reduction.{Reduction}
+use Rattle.reduction.specs.declared.answers.Tested.{Tested}
+
+-- reduce: the given system, the reduced system W and the log L that were written, and the answer
+pub record Reduces (given W L : List ℕ) (answer : Reduction) : Type 0 where
+  -- "The result is a reduced system in Nielsen's sense (1921)"
+  pub reduced : Reduced bytes (systemOf W)
+  -- "equivalent to the given one"
+  pub equivalent : Equivalent bytes (systemOf given) (systemOf W)
+  -- "The rank is the number of its words that aren't empty"
+  pub rank : answer .rank ≡ rank (systemOf W)
+  -- "the verdict says whether the given words that don't cancel to nothing are independent"
+  pub independent : (answer .independent ≡ true) ↔ IndependentWords bytes (systemOf given)
+  -- "Following the log forward from the given words gives the reduced ones": replay takes both and gives them
+  pub forward : (room : ℕ) → slots given * 64 ≤ room → replayRules given L false room ≡ Fine
+  pub forwardGives : replayed false (reducedWords given) (movesIn L) ≡ systemOf W
+  -- "and following it backward from those gives the given words, freely reduced"
+  pub backward : (room : ℕ) → slots given * 64 ≤ room → replayRules W L true room ≡ Fine
+  pub backwardGives : replayed true (reducedWords W) (movesIn L) ≡ reducedWords given
+
+-- whenever reduce is done: W is what it wrote into the words buffer, L what it wrote into the log
+abbrev pub ReduceMeans : List ℕ → Reduction → List ℕ → List ℕ → Type 0
+ReduceMeans given answer words log =
+    answer .verdict ≡ Done → Reduces given (take (slots given * 64) words) (take (answer .moves * moveSize) log) answer
+
+-- test: yes exactly when the freely reduced words are reduced
+abbrev pub TestMeans : List ℕ → Tested → Type 0
+TestMeans given answer = answer .verdict ≡ Done → (answer .reduced ≡ true) ↔ Reduced bytes (reducedWords given)

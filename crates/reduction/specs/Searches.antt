@@ -1,0 +1,56 @@
+-- What a search for a move tests and finds, and which pairs of slots need not be tried again.
+use Prim.Native.Nat.{ℕ, _+_, _*_, _<_}
+use mathlib.Core.Path.{_≡_}
+use mathlib.Core.Bool.{Bool, _||_}
+use mathlib.Core.Option.{Option, none, some}
+use mathlib.Core.List.{List}
+use lib.ListN.{length, getD}
+use lib.Dec.{ltb}
+use Rattle.words.specs.Letters.{bytes}
+use Rattle.words.specs.Words.{inverse}
+use Rattle.systems.specs.Products.{word}
+use Rattle.systems.specs.Moves.{Move, seam}
+use Rattle.systems.specs.Rules.{formAt, tryOther, anyBelow, firstHalf, secondHalf, begins, elsewhere}
+use Rattle.moves.specs.Logs.{moveOf}
+use Rattle.reduction.specs.declared.search.Found.{Found}
+use Rattle.reduction.specs.declared.search.Found.the-variants.{Move as FoundMove, Nothing}
+
+-- more than half of the other word cancels in a form, counted from 0
+unfoldable pub overHalf : ℕ → List ℕ → List ℕ → Bool
+overHalf form other changed = ltb (length other) (2 * seam bytes (formAt form) other changed)
+
+-- a word v or its inverse begins with the first half of w
+unfoldable pub meetsFront : List ℕ → List ℕ → Bool
+meetsFront w v = begins bytes (firstHalf bytes w) v || begins bytes (firstHalf bytes w) (inverse bytes v)
+
+-- a word v or its inverse begins with the inverse of the second half of w
+unfoldable pub meetsBack : List ℕ → List ℕ → Bool
+meetsBack w v =
+    begins bytes (inverse bytes (secondHalf bytes w)) v || begins bytes (inverse bytes (secondHalf bytes w)) (inverse bytes v)
+
+-- another of the first m slots has such a word
+unfoldable pub frontElsewhere : ℕ → List (List ℕ) → ℕ → Bool
+frontElsewhere m S h = anyBelow (elsewhere bytes S h (firstHalf bytes (word bytes S h))) m
+
+unfoldable pub backElsewhere : ℕ → List (List ℕ) → ℕ → Bool
+backElsewhere m S h = anyBelow (elsewhere bytes S h (inverse bytes (secondHalf bytes (word bytes S h)))) m
+
+-- the move found, or none
+abbrev pub foundMove : Found → Option Move
+foundMove Nothing = none
+foundMove (FoundMove m) = some (moveOf m)
+
+-- a move found is one between two different slots of the first n
+abbrev pub FoundBelow : ℕ → Found → Type 0
+FoundBelow n Nothing = Unit
+FoundBelow n (FoundMove m) = (m .changed < n) × (m .other < n) × (m .form < 4) × (m .changed ≡ m .other → ⊥)
+
+-- a table of pairs, k's with i at place 16 k + i: where a pair is marked, slot i shortens slot k by no form
+abbrev pub Marked : ℕ → List (List ℕ) → List ℕ → Type 0
+Marked n S marks = (k i : ℕ) → k < n → i < n → (getD marks (k * 16 + i) 0 ≡ 0 → ⊥) → tryOther bytes S k i ≡ none
+
+-- a table after the marks of all pairs with slot c were taken away: what is still marked was so, and has nothing to do with c
+abbrev pub Forgotten : ℕ → List ℕ → List ℕ → Type 0
+Forgotten c marks marks′ =
+    (k i : ℕ) → k < 16 → i < 16 → (getD marks′ (k * 16 + i) 0 ≡ 0 → ⊥)
+    → (k ≡ c → ⊥) × (i ≡ c → ⊥) × (getD marks (k * 16 + i) 0 ≡ 0 → ⊥)

@@ -1,0 +1,62 @@
+// Test: is a system, after free reduction of its words, reduced?
+ghost use mathlib.Core.Path.{_≡_};
+ghost use Rattle.reduction.specs.Reduction.{refusedTest, testAnswer};
+ghost use Rattle.reduction.specs.Meaning.{TestMeans};
+use crate::answers::Tested;
+use crate::search::Found;
+use crate::search::find_move;
+use records::answers::Checked;
+use records::answers::Verdict;
+use records::record::RECORD;
+use records::system::check_system;
+use records::system::load;
+
+// Tests whether the freely reduced words of a system are reduced.
+pub fn test(system: &[u8]) -> Tested
+    ensures answer { λ r. ⌜ r ≡ testAnswer (now (system .entry)) ⌝ }
+    ensures means { λ r. ⌜ TestMeans (now (system .entry)) r ⌝ }
+{
+    test_records(system)
+}
+
+// The same, by whether neither rule applies.
+fn test_records(system: &[u8]) -> Tested
+    ensures { λ r. ⌜ r ≡ testAnswer (now (system .entry)) ⌝ }
+{
+    let checked = check_system(system);
+    let Checked::Fine = checked else {
+        return untested(checked);
+    };
+    let n = system.len() / RECORD;
+    let mut letters = [0u8; 1024];
+    let mut lengths = [0usize; 16];
+    let mut marks = [0u8; 256];
+    load(system, &mut letters, &mut lengths);
+    let found = find_move(&letters, &lengths, n, &mut marks);
+    let Found::Nothing = found else {
+        return Tested {
+            verdict: Verdict::Done,
+            reduced: false,
+        };
+    };
+    Tested {
+        verdict: Verdict::Done,
+        reduced: true,
+    }
+}
+
+// The answer of a test that was turned down.
+fn untested(checked: Checked) -> Tested
+    ensures { λ r. ⌜ r ≡ refusedTest checked ⌝ }
+{
+    match checked {
+        Checked::Fine => Tested {
+            verdict: Verdict::Done,
+            reduced: false,
+        },
+        Checked::Failed(refusal) => Tested {
+            verdict: Verdict::Refused(refusal),
+            reduced: false,
+        },
+    }
+}

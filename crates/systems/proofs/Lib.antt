@@ -1,0 +1,15 @@
+pub mod Searching
+pub mod Factors
+pub mod ProductLaws
+pub mod Undoing
+pub mod Equivalence
+pub mod Independence
+pub mod Shortening
+pub mod Halves
+pub mod HalfEnds
+pub mod Neither
+pub mod ProductLemma
+pub mod Unique
+pub mod Leading
+pub mod Membership
+pub mod Runs
