@@ -41,6 +41,12 @@ void subgroups_replay(const uint8_t *system, size_t system_len, const uint8_t *l
 void subgroups_multiply(const uint8_t *system, size_t system_len, const uint8_t *product, size_t product_len,
                         uint8_t *word, size_t word_len, subgroups_answer *answer);
 
+/* Writes all that reduce writes, gives its numbers with the verdict member or not a member, and for a member writes
+ * the product over the reduced words. Refusals 1 to 5, 6, 10, 11 and 13. */
+void subgroups_member(const uint8_t *system, size_t system_len, const uint8_t *target, size_t target_len,
+                      uint8_t *words, size_t words_len, uint8_t *log, size_t log_len,
+                      uint8_t *product, size_t product_len, subgroups_answer *answer);
+
 #ifdef __cplusplus
 }
 #endif

@@ -8,6 +8,7 @@ pub mod measured;
 pub mod membership;
 pub mod moves;
 pub mod multiply;
+pub mod program;
 pub mod random;
 pub mod records;
 pub mod reducedness;

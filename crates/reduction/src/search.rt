@@ -24,7 +24,7 @@ pub enum Found {
 }
 
 // The word held for a slot.
-fn word_at<'a>(letters: &'a [u8], lengths: &[usize], k: usize) -> &'a [u8]
+pub fn word_at<'a>(letters: &'a [u8], lengths: &[usize], k: usize) -> &'a [u8]
     requires { ⌜ k < 16 ⌝ }
     requires { ⌜ length (now letters) ≡ 1024 ⌝ }
     requires { ⌜ length (now lengths) ≡ 16 ⌝ }

@@ -8,8 +8,9 @@ use mathlib.Core.List.{List, [], _∷_, _++_}
 use lib.ListN.{length, replicate}
 use Rattle.records.specs.Records.{recordOf, written}
 use Rattle.records.specs.Calls.{tidyAnswer, tidyBuffer}
-use Rattle.records.specs.declared.answers.Verdict.the-variants.{Done}
+use Rattle.records.specs.declared.answers.Verdict.the-variants.{Done, Member, NotMember}
 use Rattle.reduction.specs.Reduction.{reduceAnswer, reduceWords, reduceLog}
+use Rattle.membership.specs.Membership.{memberAnswer, memberProduct}
 
 -- the bytes of a text
 abbrev pub bytesIn : String → List ℕ
@@ -39,6 +40,10 @@ pub data Sheet : Type 0 where
   tidies : String → String → Sheet
   -- given words, and the log, the reduced words, the rank and the verdict on independence
   reduces : List String → List String → List String → ℕ → Bool → Sheet
+  -- given words, a target that is a member, and its product over the reduced words
+  asks : List String → String → String → Sheet
+  -- given words, and a target that is not a member
+  denies : List String → String → Sheet
 
 -- what a sheet says, with lent buffers of question marks: enough for the words, and 64 bytes for a log
 abbrev pub Says : Sheet → Type 0
@@ -46,16 +51,22 @@ Says (tidies given result) =
     (tidyAnswer (recordIn given) (lent 64) ≡ record { verdict = Done }) × (tidyBuffer (recordIn given) (lent 64) ≡ recordIn result)
 Says (reduces given log result rank independent) =
     (reduceAnswer (systemIn given) (lent (64 * length given)) (lent 64)
-      ≡ record { verdict = Done; moves = length log; rank = rank; independent = independent })
+    ≡ record { verdict = Done; moves = length log; rank = rank; independent = independent })
     × (reduceWords (systemIn given) (lent (64 * length given)) (lent 64) ≡ systemIn result)
     × (reduceLog (systemIn given) (lent (64 * length given)) (lent 64) ≡ written (logIn log) (lent 64))
+Says (asks given target product) =
+    (memberAnswer (systemIn given) (recordIn target) (lent (64 * length given)) (lent 64) (lent 64) .verdict ≡ Member)
+    × (memberProduct (systemIn given) (recordIn target) (lent (64 * length given)) (lent 64) (lent 64) ≡ recordIn product)
+Says (denies given target) =
+    (memberAnswer (systemIn given) (recordIn target) (lent (64 * length given)) (lent 64) (lent 64) .verdict ≡ NotMember)
+    × (memberProduct (systemIn given) (recordIn target) (lent (64 * length given)) (lent 64) (lent 64) ≡ lent 64)
 
 -- what every sheet of a list says
 abbrev pub EachSays : List Sheet → Type 0
 EachSays [] = Unit
 EachSays (s ∷ rest) = Says s × EachSays rest
 
--- P1 and P2 on tidy; P3, P4, P5, P7, P9, P11 and P12 as far as they concern reduce
+-- P1 and P2 on tidy; what P3 to P12 say of the reduced words, and then of their targets
 abbrev pub sheets : List Sheet
 sheets =
     tidies "aAbBc" "c"
@@ -67,4 +78,13 @@ sheets =
     ∷ reduces [] [] [] 0 true
     ∷ reduces ("ab" ∷ "ab" ∷ []) ("a2b" ∷ []) ("" ∷ "ab" ∷ []) 1 false
     ∷ reduces ("aA" ∷ "b" ∷ []) [] ("" ∷ "b" ∷ []) 1 true
+    ∷ asks ("ab" ∷ "b" ∷ []) "a" "a"
+    ∷ asks ("aa" ∷ "aaa" ∷ []) "a" "b"
+    ∷ asks ("ab" ∷ "ac" ∷ "Bd" ∷ []) "Cd" "Bc"
+    ∷ denies ("ab" ∷ "ac" ∷ "Bd" ∷ []) "d"
+    ∷ asks ("a" ∷ "BAc" ∷ "dbb" ∷ []) "adbAcACaBD" "acbABC"
+    ∷ denies ("ab" ∷ []) "ba"
+    ∷ asks [] "" ""
+    ∷ denies [] "a"
+    ∷ asks ("ab" ∷ "ab" ∷ []) "abab" "bb"
     ∷ []

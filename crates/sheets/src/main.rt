@@ -1,7 +1,8 @@
-// Runs show on the cases of the separate Rust version's file show-cases.txt and prints each part that is handed back.
+// Runs show and reduce on the cases of the separate Rust version's files show-cases.txt and reduce-cases.txt, and prints what they hand back.
 ghost use Prim.Native.Nat.{_≤_};
-ghost use lib.ListN.{length};
-ghost use mathlib.Core.Path.{_≡_};
+use records::answers::Verdict;
+use reduction::answers::Reduction;
+use reduction::reduce::reduce;
 
 // Puts texts with a space between them into records: each begins a record, and full stops fill it up to its line feed.
 fn fill_records(texts: &[u8], out: &mut [u8]) {
@@ -144,10 +145,90 @@ fn first_bytes() {
     );
 }
 
+// Reduces the first bytes of some records with a log buffer of the given size, and prints the answer, the reduced records and the log.
+fn reduce_case(texts: &[u8], size: usize, log_size: usize)
+    requires { ⌜ size ≤ 1152 ⌝ }
+    requires { ⌜ «log_size» ≤ 1024 ⌝ }
+{
+    let mut system = [0u8; 1152];
+    let mut words = [0u8; 1152];
+    let mut log = [0u8; 1024];
+    fill_records(texts, &mut system);
+    print_reduce(&system[0..size], &mut words, &mut log[0..log_size]);
+}
+
+// Reduces a system into the lent buffers and prints the answer, the reduced records and the log.
+fn print_reduce(system: &[u8], words: &mut [u8], log: &mut [u8]) {
+    let answer = reduce(system, words, log);
+    let verdict = answer.verdict;
+    let Verdict::Refused(refusal) = verdict else {
+        print_numbers(answer);
+        print_first(words, system.len());
+        print_first(log, log_bytes(answer.moves));
+        return;
+    };
+    print_refusal(refusal.number as u64, refusal.place as u64);
+}
+
+// Prints the line of a refusal: its number and its place.
+fn print_refusal(number: u64, place: u64) {
+    io::write_all(1, b"refused ");
+    io::print_decimal(1, number);
+    io::write_all(1, b" at ");
+    io::print_decimal(1, place);
+    io::write_all(1, b"\n");
+}
+
+// Prints the numbers of a reduction.
+fn print_numbers(answer: Reduction) {
+    io::write_all(1, b"moves ");
+    io::print_decimal(1, answer.moves as u64);
+    io::write_all(1, b" rank ");
+    io::print_decimal(1, answer.rank as u64);
+    if answer.independent {
+        io::write_all(1, b" independent yes\n");
+    } else {
+        io::write_all(1, b" independent no\n");
+    }
+}
+
+// The bytes of so many log records, at most 1,024.
+fn log_bytes(moves: usize) -> usize {
+    if moves > 256 { 1024 } else { moves * 4 }
+}
+
+// Prints the first bytes of a buffer.
+fn print_first(bytes: &[u8], size: usize) {
+    if size <= bytes.len() {
+        io::write_all(1, &bytes[0..size]);
+    }
+}
+
+// Nielsen's four words, the limits, and systems around a half-end move.
+fn reductions() {
+    reduce_case(b"dbAc aaBBD BAcBAc dbbABAc", 256, 1024);
+    reduce_case(b"ab b", 128, 3);
+    reduce_case(b"ab b", 128, 4);
+    reduce_case(b"", 0, 0);
+    reduce_case(b"ab", 63, 4);
+    reduce_case(b"a b c d e f g h i j k l m n o p", 1024, 0);
+}
+
+fn more_reductions() {
+    reduce_case(b"a b c d e f g h i j k l m n o p q", 1088, 0);
+    reduce_case(b"ab ac Bd", 192, 4);
+    reduce_case(b"aa aaa", 128, 15);
+    reduce_case(b"aa aaa", 128, 16);
+    reduce_case(b"ab acb", 128, 4);
+    reduce_case(b"a Cab bc", 192, 0);
+}
+
 fn main() {
     two_slots();
     slot_bytes();
     lengths();
     many_slots();
     first_bytes();
+    reductions();
+    more_reductions();
 }

@@ -1,8 +1,11 @@
-// Reads a system of records from standard input and writes it with every word freely reduced, or one line that says why it is refused.
+// Reads records from standard input, the last one the target and the earlier ones the system, and prints the reduced system, the log and,
+// for a member, the product; or one line that says why the input is refused.
 mod input;
 
 use input::read_input;
+use membership::member::member;
 use records::answers::Verdict;
+use reduction::answers::Reduction;
 
 fn main() {
     let mut kept = [0u8; 1088];
@@ -12,38 +15,78 @@ fn main() {
         return;
     }
     let size = input.size;
-    if size > 1088 {
-        refuse_size(size);
+    if size == 0 {
+        print_refusal(6, 0);
         return;
     }
-    tidy_input(&kept[0..size]);
-}
-
-// Writes the refusal of a system that is longer than any that was kept.
-fn refuse_size(size: usize) {
-    if size % 64 == 0 {
-        print_refusal(2, 0);
-    } else {
+    if size % 64 != 0 {
         print_refusal(1, 0);
+        return;
+    }
+    if size > 1088 {
+        print_refusal(2, 0);
+        return;
+    }
+    let records = &kept[0..size];
+    let split = size - 64;
+    decide(&records[0..split], &records[split..size]);
+}
+
+// Decides whether a target is a member, and prints the answer.
+fn decide(system: &[u8], target: &[u8]) {
+    let mut words = [0u8; 1024];
+    let mut log = io::large_buffer();
+    let mut product = [0u8; 64];
+    let answer = member(system, target, &mut words, &mut log, &mut product);
+    let verdict = answer.verdict;
+    match verdict {
+        Verdict::Refused(refusal) => print_refusal(refusal.number as u64, refusal.place as u64),
+        Verdict::Member => {
+            print_reduction(answer, true, system.len(), &words, &log);
+            io::write_all(1, &product);
+        }
+        Verdict::NotMember => print_reduction(answer, false, system.len(), &words, &log),
+        Verdict::Done => print_reduction(answer, false, system.len(), &words, &log),
     }
 }
 
-// Writes a system with every word freely reduced.
-fn tidy_input(system: &[u8]) {
-    let mut words = [0u8; 1088];
-    let answer = records::tidy::tidy(system, &mut words);
-    let verdict = answer.verdict;
-    let Verdict::Refused(refusal) = verdict else {
-        let n = system.len();
-        if n <= 1088 {
-            io::write_all(1, &words[0..n]);
-        }
-        return;
-    };
-    print_refusal(refusal.number as u64, refusal.place as u64);
+// Prints the first line, the reduced slots and the log.
+fn print_reduction(answer: Reduction, is_member: bool, size: usize, words: &[u8], log: &[u8]) {
+    io::write_all(1, b"moves ");
+    io::print_decimal(1, answer.moves as u64);
+    io::write_all(1, b" rank ");
+    io::print_decimal(1, answer.rank as u64);
+    io::write_all(1, b" independent ");
+    print_yes_or_no(answer.independent);
+    io::write_all(1, b" member ");
+    print_yes_or_no(is_member);
+    io::write_all(1, b"\n");
+    print_first(words, size);
+    print_first(log, log_size(answer.moves, log.len()));
 }
 
-// Writes the line of a refusal: its number and its place.
+// The bytes of so many log records, at most those of the log.
+fn log_size(moves: usize, most: usize) -> usize {
+    if moves > most / 4 { most } else { moves * 4 }
+}
+
+// Prints the first bytes of a buffer.
+fn print_first(bytes: &[u8], size: usize) {
+    if size <= bytes.len() {
+        io::write_all(1, &bytes[0..size]);
+    }
+}
+
+// Prints yes or no.
+fn print_yes_or_no(yes: bool) {
+    if yes {
+        io::write_all(1, b"yes");
+    } else {
+        io::write_all(1, b"no");
+    }
+}
+
+// Prints the line of a refusal: its number and its place.
 fn print_refusal(number: u64, place: u64) {
     io::write_all(1, b"refused ");
     io::print_decimal(1, number);

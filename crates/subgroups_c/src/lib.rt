@@ -4,6 +4,7 @@ ghost use Rattle.records.specs.Answers.{verdictNumber, refusalNumber, refusalPl
 ghost use Rattle.records.specs.Calls.{tidyAnswer, tidyBuffer};
 ghost use Rattle.replay.specs.Replay.{replayAnswer, replayBuffer};
 ghost use Rattle.multiply.specs.Multiply.{multiplyAnswer, multiplyBuffer};
+ghost use Rattle.membership.specs.Membership.{memberAnswer, memberWords, memberLog, memberProduct};
 ghost use Rattle.reduction.specs.Reduction.{testAnswer, reduceAnswer, reduceWords, reduceLog};
 ghost use Rattle.subgroups_c.specs.Numbers.{isBackward, oneOrZero, plainNumbers, testNumbers, reductionNumbers};
 use records::answers::Answer;
@@ -165,5 +166,24 @@ pub extern "C" fn subgroups_reduce(
     ensures numbers { λ _. ⌜ now (numbers .exit) ≡ reductionNumbers (reduceAnswer (now (system .entry)) (now (words .entry)) (now (log .entry))) ⌝ }
 {
     let answer = reduction::reduce::reduce(system, words, log);
+    *numbers = reduction_numbers(answer);
+}
+
+// Member: all that reduce writes, the verdict on a target and, for a member, the product over the reduced words.
+#[no_mangle]
+pub extern "C" fn subgroups_member(
+    system: &[u8],
+    target: &[u8],
+    words: &mut [u8],
+    log: &mut [u8],
+    product: &mut [u8],
+    numbers: &mut [u64; 7],
+)
+    ensures words { λ _. ⌜ now (words .exit) ≡ memberWords (now (system .entry)) (now (target .entry)) (now (words .entry)) (now (log .entry)) (now (product .entry)) ⌝ }
+    ensures log { λ _. ⌜ now (log .exit) ≡ memberLog (now (system .entry)) (now (target .entry)) (now (words .entry)) (now (log .entry)) (now (product .entry)) ⌝ }
+    ensures product { λ _. ⌜ now (product .exit) ≡ memberProduct (now (system .entry)) (now (target .entry)) (now (words .entry)) (now (log .entry)) (now (product .entry)) ⌝ }
+    ensures numbers { λ _. ⌜ now (numbers .exit) ≡ reductionNumbers (memberAnswer (now (system .entry)) (now (target .entry)) (now (words .entry)) (now (log .entry)) (now (product .entry))) ⌝ }
+{
+    let answer = membership::member::member(system, target, words, log, product);
     *numbers = reduction_numbers(answer);
 }

@@ -1,0 +1,3 @@
+pub mod Membership
+pub mod Meaning
+pub mod Leads
