@@ -1,8 +1,9 @@
 /* Proved routines for subgroups of free groups, for C.
  *
- * Every call takes byte buffers of any length and content and either does its work or refuses. Lent buffers
- * must not overlap. The library keeps nothing between calls and allocates nothing. A pointer may be any
- * non-null pointer where its length is 0. */
+ * Every call takes byte buffers of any length and content and either does its work or refuses. A buffer that is
+ * written (words, log, product, word, answer) must not overlap any other; buffers that are only read may. The
+ * library keeps nothing between calls and allocates nothing. A pointer may be any non-null pointer where its
+ * length is 0. */
 #ifndef SUBGROUPS_H
 #define SUBGROUPS_H
 

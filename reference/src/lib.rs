@@ -18,6 +18,7 @@ pub mod replay;
 pub mod sheets;
 pub mod show;
 pub mod small;
+pub mod table_search;
 pub mod tidy;
 pub mod words;
 

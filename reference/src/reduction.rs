@@ -172,17 +172,21 @@ pub fn reduce_words(words: &mut [Word], log: &mut [u8]) -> Result<usize, Refusal
     Ok(moves)
 }
 
-/// Reduces a system in place and gives the answer that tells of it.
-pub fn reduce_system(system: &mut System, log: &mut [u8]) -> Result<Answer, Refusal> {
-    let given_words = system.rank();
-    let moves = reduce_words(system.words_mut(), log)?;
-    let rank = system.rank();
-    Ok(Answer {
+/// The answer after this many moves, from the numbers of words before and after them.
+pub fn answer_of_reduction(moves: usize, given_words: usize, rank: usize) -> Answer {
+    Answer {
         moves: moves as u64,
         rank: rank as u64,
         independent: u64::from(rank == given_words),
         ..Answer::done()
-    })
+    }
+}
+
+/// Reduces a system in place and gives the answer that tells of it.
+pub fn reduce_system(system: &mut System, log: &mut [u8]) -> Result<Answer, Refusal> {
+    let given_words = system.rank();
+    let moves = reduce_words(system.words_mut(), log)?;
+    Ok(answer_of_reduction(moves, given_words, system.rank()))
 }
 
 /// Writes the reduced system into the buffer for words and the moves into the log.

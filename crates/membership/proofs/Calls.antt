@@ -94,8 +94,11 @@ module _ (s t : List ℕ) (room product : ℕ) where
     pub passed-few : length s / 64 ≤ 16
     passed-few = system-few s passed-system
 
+    pub passed-rules : targetRules t ≡ Fine
+    passed-rules = fine-first (targetRules t) _ past-system
+
     pub passed-target : length t ≡ 64
-    passed-target = target-sized t (fine-first (targetRules t) _ past-system)
+    passed-target = target-sized t passed-rules
 
     pub passed-fits : length s / 64 * 64 ≤ room
     passed-fits = room-enough (length s / 64 * 64) room (fine-first (wordRoom (slots s * 64) room) _ past-target)

@@ -2,7 +2,7 @@
 -- and the search for a product over them decides. A product that it finds has at most 63 factors, and comes back from its record.
 use Prim.Native.Nat.{ℕ, _+_, _-_, _*_, _%_, _≤_, _<_}
 use mathlib.Core.Path.{_≡_, refl, sym, ap, _∙_}
-use mathlib.Core.Logic.{inl, inr}
+use mathlib.Core.Logic.{_⊎_, inl, inr}
 use mathlib.Core.Bool.{Bool, true, false}
 use mathlib.Core.Option.{Option, none, some}
 use mathlib.Core.List.{List, [], _∷_, map}
@@ -22,12 +22,12 @@ use Rattle.records.specs.Answers.{onFine}
 use Rattle.records.specs.Refusals.{must, systemRules, wordRoom}
 use Rattle.records.specs.Calls.{reducedWords}
 use Rattle.records.specs.declared.answers.Checked.{Checked}
-use Rattle.records.specs.declared.answers.Checked.the-variants.{Fine}
+use Rattle.records.specs.declared.answers.Checked.the-variants.{Fine, Failed}
 use Rattle.records.specs.declared.answers.Verdict.{Verdict}
 use Rattle.records.specs.declared.answers.Verdict.the-variants.{Member, NotMember}
 use Rattle.records.proofs.Rules.{letter-between}
 use Rattle.records.proofs.Systems.{record-length}
-use Rattle.records.proofs.Calls.{system-few}
+use Rattle.records.proofs.Calls.{fine-first, fine-next, must-fine, system-few}
 use Rattle.moves.specs.Logs.{moveSize, logOf}
 use Rattle.multiply.specs.Targets.{factorOf, productOf, targetRules}
 use Rattle.multiply.proofs.Targets.{target-fine}
@@ -35,7 +35,7 @@ use Rattle.reduction.specs.Reduction.{roomFor, reduceTests, reduceRules, reduct
 use Rattle.reduction.specs.Meaning.{Reduces}
 use Rattle.reduction.specs.declared.answers.Reduction.{Reduction}
 use Rattle.reduction.proofs.RoundTrip.{AllLetters, word-short, word-back, record-passes, written-take}
-use Rattle.reduction.proofs.Meaning.{runMoves, runWords, none-stopped, left-length, left-bytes, left-back, reduce-means}
+use Rattle.reduction.proofs.Meaning.{runMoves, runWords, stopped-none, none-stopped, left-length, left-bytes, left-back, reduce-means}
 use Rattle.membership.specs.Membership.{
   targetWord,
   productFor,
@@ -51,8 +51,8 @@ use Rattle.membership.specs.Membership.{
   memberLog,
   memberProduct,
 }
-use Rattle.membership.specs.Meaning.{EnoughRoom, Decides, MemberMeans}
-use Rattle.membership.proofs.Calls.{tests-fine}
+use Rattle.membership.specs.Meaning.{EnoughRoom, Answered, Decides, MemberMeans}
+use Rattle.membership.proofs.Calls.{tests-fine, passed-system, passed-rules, passed-fits, passed-product}
 
 -- the byte of a factor is a letter, and names the factor
 factor-letter : (k : ℕ) (b : Bool) → k < 26 → isLetter (factorByte (record { slot = k; inverted = b })) ≡ true
@@ -101,10 +101,21 @@ missed-verdict o e = rw e
 apart : (v : Verdict) → v ≡ Member → v ≡ NotMember → ⊥
 apart v e h = let z : _≡_ {A = ℕ} 0 1 = cc in omega arith
 
+verdict-cases : (v : Verdict) (o : Option (List Factor)) → v ≡ verdictOf (isFound o) → (v ≡ Member) ⊎ (v ≡ NotMember)
+verdict-cases v none e = inr e
+verdict-cases v (some p) e = inl e
+
+-- an answer that is one of them comes from a call that passed its tests
+answered-fine : (c : Checked) (S : List (List ℕ)) (n : ℕ) (w : List ℕ) → Answered (membershipOf c S n w) → c ≡ Fine
+answered-fine Fine S n w h = refl
+answered-fine (Failed f) S n w (inl e) = let z : _≡_ {A = ℕ} 0 1 = cc in absurd (omega arith)
+answered-fine (Failed f) S n w (inr e) = let z : _≡_ {A = ℕ} 0 1 = cc in absurd (omega arith)
+
 -- what reduce means depends on the rank and the verdict on independence alone
 pub reduces-same : (s W L : List ℕ) (a b : Reduction) → b .rank ≡ a .rank → b .independent ≡ a .independent → Reduces s W L a → Reduces s W L b
 reduces-same s W L a b ranks same r =
     record {
+      tidy = r .tidy;
       reduced = r .reduced;
       equivalent = r .equivalent;
       rank = ranks ∙ r .rank;
@@ -155,13 +166,13 @@ module _ (s t : List ℕ) (n : ℕ) (ended : next bytes (runWords s n) ≡ none)
 
 -- the call, with enough room lent
 module _ (s t words log product : List ℕ) (room : EnoughRoom s t words log product) where
-  enough : room .movesMade ≤ roomFor log
+  enough : room .enoughMoves ≤ roomFor log
   enough = omega (arith, room .logFits)
 
   -- the run comes to its end within the log
   room-ended : next bytes (runWords s (roomFor log)) ≡ none
   room-ended =
-      ended-next bytes (reducedWords s) (runWords s (room .movesMade)) (room .movesMade) refl (room .noMoreMoves) (roomFor log) enough
+      ended-next bytes (reducedWords s) (runWords s (room .enoughMoves)) (room .enoughMoves) refl (room .noMoreMoves) (roomFor log) enough
 
   room-words : wordRoom (slots s * 64) (length words) ≡ Fine
   unfolding wordRoom
@@ -273,9 +284,35 @@ module _ (s t words log product : List ℕ) (room : EnoughRoom s t words log pro
     means : Means
     means = elim (option-cases (productFor (runWords s (roomFor log)) (targetWord t))) [ inl e ↦ missed e | inr f ↦ hit f.0 f.1 ]
 
+-- a call that passed its tests had enough room
+passed-room : (s t words log product : List ℕ) → memberRules s t (length words) (length product) (roomFor log) ≡ Fine
+    → EnoughRoom s t words log product
+unfolding memberRules
+passed-room s t words log product passed =
+    let tests : memberTests s t (length words) (length product) ≡ Fine = fine-first (memberTests s t (length words) (length product)) _ passed in
+    let ended = must-fine _ 13 0 (fine-next (memberTests s t (length words) (length product)) _ passed) in
+    record {
+      system = passed-system s t (length words) (length product) tests;
+      targetFits = passed-rules s t (length words) (length product) tests;
+      wordsFit = passed-fits s t (length words) (length product) tests;
+      productFits = passed-product s t (length words) (length product) tests;
+      enoughMoves = roomFor log;
+      noMoreMoves = stopped-none (runWords s (roomFor log)) ended;
+      logFits = omega arith;
+    }
+
 -- the answer of member and what it wrote into the three buffers mean what the owner demands
 pub member-means : (s t words log product : List ℕ) (a : Reduction) (words′ log′ product′ : List ℕ) → a ≡ memberAnswer s t words log product
     → words′ ≡ memberWords s t words log product → log′ ≡ memberLog s t words log product → product′ ≡ memberProduct s t words log product
     → MemberMeans s t words log product a words′ log′ product′
-member-means s t words log product a words′ log′ product′ answered wrote logged gave room =
-    means s t words log product room a words′ log′ product′ answered wrote logged gave
+member-means s t words log product a words′ log′ product′ answered wrote logged gave =
+    record {
+      answered =
+          λ room.
+          verdict-cases (a .verdict) (productFor (runWords s (roomFor log)) (targetWord t))
+          (verdict-is s t words log product room a words′ log′ product′ answered wrote logged gave);
+      decides =
+          λ told.
+          let passed = answered-fine _ (reducedWords s) (roomFor log) (targetWord t) (rw answered at told) in
+          means s t words log product (passed-room s t words log product passed) a words′ log′ product′ answered wrote logged gave;
+    }

@@ -1,4 +1,5 @@
 -- What the search for a leading factor tests and finds, over words held in slots, and the letters of a product.
+-- No public contract speaks of these.
 use Prim.Native.Nat.{ℕ, _*_, _<_}
 use mathlib.Core.Bool.{Bool, cond, not, _&&_, _||_}
 use mathlib.Core.Option.{Option, none, some, Option·map}

@@ -1,7 +1,7 @@
 -- What the answer of member means, over the lent buffers alone: the third demand of the owner.
 use Prim.Native.Nat.{ℕ, _*_, _≤_}
 use mathlib.Core.Path.{_≡_}
-use mathlib.Core.Logic.{_↔_}
+use mathlib.Core.Logic.{_↔_, _⊎_}
 use mathlib.Core.Option.{none}
 use mathlib.Core.List.{List}
 use lib.ListN.{length, take}
@@ -20,15 +20,16 @@ use Rattle.reduction.specs.Meaning.{Reduces}
 use Rattle.reduction.specs.declared.answers.Reduction.{Reduction}
 
 -- "in well-formed records with enough room lent for all results": 64 bytes of word buffer for each record, 64 bytes of product buffer,
--- "and in the log buffer room for one log record for each move that the rules above make on S"
+-- "and in the log buffer room for one log record for each move that the rules above make on S"; that no byte of these three lies in
+-- another buffer is what lending them mutably means
 pub record EnoughRoom (given target words log product : List ℕ) : Type 0 where
   pub system : systemRules given ≡ Fine
   pub targetFits : targetRules target ≡ Fine
   pub wordsFit : slots given * 64 ≤ length words
   pub productFits : 64 ≤ length product
-  pub movesMade : ℕ
-  pub noMoreMoves : next bytes (runWithin bytes movesMade (reducedWords given)) ≡ none
-  pub logFits : movesMade * moveSize ≤ length log
+  pub enoughMoves : ℕ
+  pub noMoreMoves : next bytes (runWithin bytes enoughMoves (reducedWords given)) ≡ none
+  pub logFits : enoughMoves * moveSize ≤ length log
 
 -- the third demand, of the given system and target, the reduced system W, the log L and the product P that were written, and the answer
 pub record Decides (given target W L P : List ℕ) (answer : Reduction) : Type 0 where
@@ -49,8 +50,12 @@ pub record Decides (given target W L P : List ℕ) (answer : Reduction) : Type 0
   -- W, L and the numbers are those of reduce, with all that they mean
   pub reduces : Reduces given W L answer
 
--- wherever there is enough room: W, L and P are what member wrote
-abbrev pub MemberMeans : List ℕ → List ℕ → List ℕ → List ℕ → List ℕ → Reduction → List ℕ → List ℕ → List ℕ → Type 0
-MemberMeans given target words log product answer words′ log′ product′ =
-    EnoughRoom given target words log product
-    → Decides given target (take (slots given * 64) words′) (take (answer .moves * moveSize) log′) (take 64 product′) answer
+-- the answer is member or not a member, and so no refusal
+abbrev pub Answered : Reduction → Type 0
+Answered answer = (answer .verdict ≡ Member) ⊎ (answer .verdict ≡ NotMember)
+
+-- wherever there is enough room the target is answered, and every such answer decides: W, L and P are what member wrote
+pub record MemberMeans (given target words log product : List ℕ) (answer : Reduction) (words′ log′ product′ : List ℕ) : Type 0 where
+  pub answered : EnoughRoom given target words log product → Answered answer
+  pub decides : Answered answer
+      → Decides given target (take (slots given * 64) words′) (take (answer .moves * moveSize) log′) (take 64 product′) answer

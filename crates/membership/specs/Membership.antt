@@ -28,7 +28,8 @@ use Rattle.reduction.specs.declared.answers.Reduction.{Reduction}
 abbrev pub targetWord : List ℕ → List ℕ
 targetWord t = reduce bytes (wordOf t)
 
--- the product over a reduced system that a word is, none where it is not one; a product that fits a record has at most 63 factors
+-- the product over a reduced system that a word is, none where it is not one: such a product has no more factors than the word has letters,
+-- so 63 are enough
 abbrev pub productFor : List (List ℕ) → List ℕ → Option (List Factor)
 productFor T w = factored bytes T 63 w
 
@@ -52,22 +53,24 @@ productAfter (some p) buffer = written (recordOf (map factorByte p)) buffer
 
 -- refusals 1 to 5, 6, 10 and 11. "The product buffer is shorter than 64 bytes."
 unfoldable pub memberTests : List ℕ → List ℕ → ℕ → ℕ → Checked
-memberTests s t room product = systemRules s andThen targetRules t andThen wordRoom (slots s * 64) room andThen must (leb 64 product) 11 0
+memberTests s t room productRoom =
+    systemRules s andThen targetRules t andThen wordRoom (slots s * 64) room andThen must (leb 64 productRoom) 11 0
 
 -- and then 13
 unfoldable pub memberRules : List ℕ → List ℕ → ℕ → ℕ → ℕ → Checked
-memberRules s t room product moves = memberTests s t room product andThen must (stopped (runWithin bytes moves (reducedWords s))) 13 0
+memberRules s t room productRoom most =
+    memberTests s t room productRoom andThen must (stopped (runWithin bytes most (reducedWords s))) 13 0
 
 -- the answer: all that reduce gives, with the verdict on the target
 abbrev pub membershipOf : Checked → List (List ℕ) → ℕ → List ℕ → Reduction
-membershipOf Fine S moves w =
+membershipOf Fine S most w =
     record {
-      verdict = verdictOf (isFound (productFor (runWithin bytes moves S) w));
-      moves = length (movesWithin bytes moves S);
-      rank = rank (runWithin bytes moves S);
-      independent = sameRank S (runWithin bytes moves S);
+      verdict = verdictOf (isFound (productFor (runWithin bytes most S) w));
+      moves = length (movesWithin bytes most S);
+      rank = rank (runWithin bytes most S);
+      independent = sameRank S (runWithin bytes most S);
     }
-membershipOf (Failed f) S moves w = refusedReduction (Failed f)
+membershipOf (Failed f) S most w = refusedReduction (Failed f)
 
 -- the call, on the lent buffers: system, target, words, log and product
 module _ (s t words log product : List ℕ) where

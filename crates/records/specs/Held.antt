@@ -1,4 +1,5 @@
 -- Words held in two arrays while a call runs: slot k's letters begin at place 64 k of the one, and its length is in the other.
+-- No public contract speaks of them.
 use Prim.Native.Nat.{ℕ, zero, suc, _*_, _≤_}
 use mathlib.Core.List.{List, [], _∷_, _++_}
 use lib.ListN.{getD, take, drop}

@@ -42,7 +42,8 @@ abbrev pub orderRule : List ℕ → ℕ → Checked
 orderRule [] at = Fine
 orderRule (b ∷ r) at = cond (isStop b) (eachByte notLetter 5 r (at + 1)) (orderRule r (at + 1))
 
--- a row that breaks neither rule 4 nor rule 5, and one with full stops alone, wherever it stands
+-- a row that breaks neither rule 4 nor rule 5, and one with full stops alone, wherever it stands: for the quick test of a record, no public
+-- contract speaks of them
 abbrev pub Plain : List ℕ → Type 0
 Plain r = (at : ℕ) → (byteRule r at ≡ Fine) × (orderRule r at ≡ Fine)
 

@@ -176,6 +176,7 @@ module _ (s : List ℕ) (n : ℕ) (system : systemRules s ≡ Fine) where
       → Reduces s (bytesOf (runWords s n)) (logOf (runMoves s n)) (reductionOf Fine (reducedWords s) n)
   run-reduces ended =
       record {
+        tidy = rw left-back (left-tidy s n);
         reduced = rw left-back (left-reduced s n ended);
         equivalent = rw left-back (left-equivalent s n);
         rank = ap rank (sym left-back);

@@ -6,11 +6,10 @@ use mathlib.Core.Bool.{true, false}
 use mathlib.Core.List.{List}
 use lib.ListN.{take}
 use Rattle.words.specs.Letters.{bytes}
-use Rattle.systems.specs.Products.{Equivalent, IndependentWords}
+use Rattle.systems.specs.Products.{Tidy, Equivalent, IndependentWords}
 use Rattle.systems.specs.Reduced.{Reduced}
 use Rattle.systems.specs.Rank.{rank}
 use Rattle.records.specs.Records.{slots, systemOf}
-use Rattle.records.specs.Refusals.{systemRules}
 use Rattle.records.specs.Calls.{reducedWords}
 use Rattle.records.specs.declared.answers.Checked.the-variants.{Fine}
 use Rattle.records.specs.declared.answers.Verdict.the-variants.{Done}
@@ -21,7 +20,8 @@ use Rattle.reduction.specs.declared.answers.Tested.{Tested}
 
 -- reduce: the given system, the reduced system W and the log L that were written, and the answer
 pub record Reduces (given W L : List ℕ) (answer : Reduction) : Type 0 where
-  -- "The result is a reduced system in Nielsen's sense (1921)"
+  -- "The result is a reduced system in Nielsen's sense (1921)", of freely reduced words
+  pub tidy : Tidy bytes (systemOf W)
   pub reduced : Reduced bytes (systemOf W)
   -- "equivalent to the given one"
   pub equivalent : Equivalent bytes (systemOf given) (systemOf W)

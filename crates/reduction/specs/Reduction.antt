@@ -38,27 +38,27 @@ reduceTests s room = systemRules s andThen wordRoom (slots s * 64) room
 
 -- and then 13. "The moves number more than a quarter of the log buffer's length, rounded down."
 unfoldable pub reduceRules : List ℕ → ℕ → ℕ → Checked
-reduceRules s room moves = reduceTests s room andThen must (stopped (runWithin bytes moves (reducedWords s))) 13 0
+reduceRules s room most = reduceTests s room andThen must (stopped (runWithin bytes most (reducedWords s))) 13 0
 
 -- "The verdict is 'independent' if the rank equals the number of given words that don't freely reduce to the empty word."
 abbrev pub sameRank : List (List ℕ) → List (List ℕ) → Bool
 sameRank S T = eqb (rank T) (rank S)
 
--- "Under a refusal all other numbers are 0 and every yes-or-no is no."
+-- "Under a refusal all other numbers are 0 and every yes-or-no is no." Only a failed check comes here.
 abbrev pub refusedReduction : Checked → Reduction
 refusedReduction Fine = record { verdict = Done; moves = 0; rank = 0; independent = false }
 refusedReduction (Failed f) = record { verdict = Refused f; moves = 0; rank = 0; independent = false }
 
--- the answer of a reduction with room for so many moves
+-- the answer of a reduction with room for the most moves given
 abbrev pub reductionOf : Checked → List (List ℕ) → ℕ → Reduction
-reductionOf Fine S moves =
+reductionOf Fine S most =
     record {
       verdict = Done;
-      moves = length (movesWithin bytes moves S);
-      rank = rank (runWithin bytes moves S);
-      independent = sameRank S (runWithin bytes moves S);
+      moves = length (movesWithin bytes most S);
+      rank = rank (runWithin bytes most S);
+      independent = sameRank S (runWithin bytes most S);
     }
-reductionOf (Failed f) S moves = refusedReduction (Failed f)
+reductionOf (Failed f) S most = refusedReduction (Failed f)
 
 -- Reduce: "give the reduced system, the log, the number of moves, the rank and the verdict on independence"
 abbrev pub reduceAnswer : List ℕ → List ℕ → List ℕ → Reduction
@@ -73,6 +73,7 @@ abbrev pub reduceLog : List ℕ → List ℕ → List ℕ → List ℕ
 reduceLog s words log =
     onFine (reduceTests s (length words)) (written (logOf (movesWithin bytes (roomFor log) (reducedWords s))) log) log
 
+-- the same for test
 abbrev pub refusedTest : Checked → Tested
 refusedTest Fine = record { verdict = Done; reduced = false }
 refusedTest (Failed f) = record { verdict = Refused f; reduced = false }

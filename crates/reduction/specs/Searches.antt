@@ -1,4 +1,5 @@
 -- What a search for a move tests and finds, and which pairs of slots need not be tried again.
+-- No public contract speaks of these.
 use Prim.Native.Nat.{ℕ, _+_, _*_, _<_}
 use mathlib.Core.Path.{_≡_}
 use mathlib.Core.Bool.{Bool, _||_}

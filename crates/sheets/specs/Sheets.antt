@@ -66,7 +66,8 @@ abbrev pub EachSays : List Sheet → Type 0
 EachSays [] = Unit
 EachSays (s ∷ rest) = Says s × EachSays rest
 
--- P1 and P2 on tidy; what P3 to P12 say of the reduced words, and then of their targets
+-- in this order: P1 and P2; what P3, P4, P5 and P6, P7, P9 and P10, P11 and P12 say of the reduced words; and the targets of P3, P4, P5, P6,
+-- P7, P8, P9, P10 and P11
 abbrev pub sheets : List Sheet
 sheets =
     tidies "aAbBc" "c"

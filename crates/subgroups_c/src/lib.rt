@@ -87,7 +87,7 @@ fn test_numbers(answer: Tested) -> [u64; 7]
     ]
 }
 
-// The numbers of the answer of reduce.
+// The numbers of the answer of reduce or member.
 fn reduction_numbers(answer: Reduction) -> [u64; 7]
     ensures { λ r. ⌜ r ≡ reductionNumbers answer ⌝ }
 {

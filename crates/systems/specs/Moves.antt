@@ -35,7 +35,7 @@ module _ {A : Type 0} (G : Letters A) where
   formed form₃ wi wk = wk ++ wi
   formed form₄ wi wk = wk ++ inverse G wi
 
-  -- how many letters cancel in a form, between its two freely reduced words
+  -- how many letters cancel in a form, between its two freely reduced words; the search counts it, and no rule speaks of it
   abbrev pub seam : Form → List A → List A → ℕ
   seam form₁ wi wk = cancelled G wi wk
   seam form₂ wi wk = cancelled G (inverse G wi) wk

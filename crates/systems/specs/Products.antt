@@ -67,8 +67,7 @@ module _ {A : Type 0} (G : Letters A) where
   abbrev pub Equivalent : List (List A) → List (List A) → Type 0
   Equivalent S T = (w : List A) → Generated S w ↔ Generated T w
 
-  -- "every product of those words and inverses that comes to the empty word cancels already as a product over slots", those words being
-  -- the ones that are not blank
+  -- the words of a system that are not blank are independent; theorems alone speak of it
   abbrev pub Independent : List (List A) → Type 0
   Independent S = (p : List Factor) → OverWords S p → multiplied S p ≡ [] → reduce factors p ≡ []
 
@@ -77,6 +76,7 @@ module _ {A : Type 0} (G : Letters A) where
   OverUncancelled S [] = Unit
   OverUncancelled S (f ∷ p) = (reduce G (word S (f .slot)) ≡ [] → ⊥) × OverUncancelled S p
 
-  -- the given words that don't cancel to nothing are independent
+  -- the given words that don't cancel to nothing are independent: "every product of those words and inverses that comes to the empty word
+  -- cancels already as a product over slots"
   abbrev pub IndependentWords : List (List A) → Type 0
   IndependentWords S = (p : List Factor) → OverUncancelled S p → multiplied S p ≡ [] → reduce factors p ≡ []

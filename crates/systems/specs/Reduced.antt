@@ -1,4 +1,4 @@
--- Nielsen-reduced systems (document 000, section 1, in the words of document 01).
+-- Nielsen-reduced systems of freely reduced words (document 000, section 1, in the words of document 01).
 use Prim.Native.Nat.{ℕ, _+_, _*_, _≤_, _<_}
 use mathlib.Core.Path.{_≡_}
 use mathlib.Core.List.{List, []}

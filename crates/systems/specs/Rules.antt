@@ -1,4 +1,5 @@
--- The rules of document 01, 'The moves': which move is made next, and the moves of a whole run.
+-- The rules of document 01, 'The moves': which move is made next, and the moves of a whole run. They are read on freely reduced words.
+-- "Only slots that are not blank take part": a blank slot neither shortens a word nor is shortened, and a half has at least one letter.
 use Prim.Native.Nat.{ℕ, zero, suc, _/_, _%_}
 use mathlib.Core.Bool.{Bool, true, false, cond, not, _&&_, _||_}
 use mathlib.Core.Option.{Option, none, some}
@@ -28,7 +29,7 @@ formAt (suc (suc zero)) = form₃
 formAt (suc (suc (suc n))) = form₄
 
 module _ {A : Type 0} (G : Letters A) where
-  -- "if the freely reduced result is strictly shorter than w(k)"; a blank slot never shortens another and is never shortened
+  -- "if the freely reduced result is strictly shorter than w(k)"
   abbrev pub tryForm : List (List A) → ℕ → ℕ → Form → Option Move
   tryForm S k i form =
       cond (ltb (length (reduce G (formed G form (word G S i) (word G S k)))) (length (word G S k)))

@@ -1,6 +1,7 @@
 //! Times reduce on systems of 4, 8, 12 and 16 words over 2, 3 and 5 generators, independent and
 //! dependent, on systems rich in half-end moves, and on those that are measured with GAP too.
-//! The last line gives the total over all systems.
+//! Under each line stands another, with the Rust version that is written with the same search.
+//! The last two lines give the total over all systems.
 
 use crate::library;
 use crate::timing::{self, Times};
@@ -8,16 +9,28 @@ use std::hint::black_box;
 use subgroups_reference::measured::Measured;
 use subgroups_reference::random::Random;
 use subgroups_reference::records::{MOST_RECORDS, RECORD};
+use subgroups_reference::table_search::reduce_by_table;
 use subgroups_reference::words::LONGEST;
+use subgroups_reference::{reduce, Answer};
 
 const SYSTEMS: usize = 200;
 
 /// The length of the log that is lent: that of the program.
 const LOG: usize = 4 * 16_384;
 
+/// The name of a line with the Rust version that is written with the same search.
+const SAME_SEARCH: &str = "  against Rust with the same search";
+
+/// The times of all systems, with either of the Rust versions.
+#[derive(Default)]
+struct Totals {
+    own_search: Times,
+    same_search: Times,
+}
+
 /// Times all kinds of systems.
 pub fn bench() {
-    let mut totals = Times::default();
+    let mut totals = Totals::default();
     for generators in [2, 3, 5] {
         for records in [4, 8, 12, 16] {
             for independent in [true, false] {
@@ -46,7 +59,8 @@ pub fn bench() {
         let name = format!("GAP's {}", kind_name(&kind));
         compare(&name, &kind.systems(SYSTEMS), &mut totals);
     }
-    timing::line("reduce, all these systems once", totals);
+    timing::line("reduce, all these systems once", totals.own_search);
+    timing::line(SAME_SEARCH, totals.same_search);
 }
 
 /// The name of a kind of system.
@@ -62,20 +76,39 @@ fn kind_name(kind: &Measured) -> String {
     )
 }
 
-/// Times reduce on these systems and adds the time of all of them to the totals.
-fn compare(name: &str, systems: &[Vec<u8>], totals: &mut Times) {
+/// Times reduce on these systems against both Rust versions and adds the times to the totals.
+fn compare(name: &str, systems: &[Vec<u8>], totals: &mut Totals) {
+    let mut words = [0; RECORD * MOST_RECORDS];
+    let mut log = vec![0; LOG];
+    let moves: u64 = systems
+        .iter()
+        .map(|system| reduce(system, &mut words, &mut log).moves)
+        .sum();
+    let moves = moves as f64 / systems.len() as f64;
+    let name = format!("reduce, {name} ({moves:.0} moves)");
+    compare_with(&name, systems, reduce, &mut totals.own_search);
+    compare_with(
+        SAME_SEARCH,
+        systems,
+        reduce_by_table,
+        &mut totals.same_search,
+    );
+}
+
+/// Times reduce on these systems against one Rust version and adds the time of all to the total.
+fn compare_with(
+    name: &str,
+    systems: &[Vec<u8>],
+    rust: impl Fn(&[u8], &mut [u8], &mut [u8]) -> Answer,
+    total: &mut Times,
+) {
     let mut proved_words = [0; RECORD * MOST_RECORDS];
     let mut rust_words = [0; RECORD * MOST_RECORDS];
     let mut proved_log = vec![0; LOG];
     let mut rust_log = vec![0; LOG];
     let mut answer = [0; 7];
-    let moves: u64 = systems
-        .iter()
-        .map(|system| subgroups_reference::reduce(system, &mut rust_words, &mut rust_log).moves)
-        .sum();
-    let moves = moves as f64 / systems.len() as f64;
     let times = timing::compare(
-        &format!("reduce, {name} ({moves:.0} moves)"),
+        name,
         systems,
         |system| {
             let words = black_box(&mut proved_words);
@@ -84,10 +117,10 @@ fn compare(name: &str, systems: &[Vec<u8>], totals: &mut Times) {
         },
         |system| {
             let words = black_box(&mut rust_words);
-            let answer = subgroups_reference::reduce(system, words, black_box(&mut rust_log));
+            let answer = rust(system, words, black_box(&mut rust_log));
             black_box(&answer);
         },
     );
-    totals.proved += times.proved * systems.len() as f64;
-    totals.rust += times.rust * systems.len() as f64;
+    total.proved += times.proved * systems.len() as f64;
+    total.rust += times.rust * systems.len() as f64;
 }
