@@ -1,0 +1,42 @@
+-- `multiply::target::check_target` meets its contract.
+use borrow.Author.Needs.{needs}
+use Rattle.multiply.proofs.Targets.{target-short, target-fine, target-broken}
+use Rattle.multiply.proofs.target.check_target.Statement.{statement}
+use Rattle.multiply.proofs.target.check_target.Tie as tie
+
+refuse-requires : tie.Need-refuse-requires
+refuse-requires c κs = search needs
+
+returns : tie.Need-returns
+returns c = search (target-short, needs)
+
+check-record-requires : tie.Need-check-record-requires
+check-record-requires c κs = search needs
+
+enum-told : tie.Need-enum-told
+enum-told c = search needs
+
+enum-known-refusal : tie.Need-enum-known-refusal
+enum-known-refusal c = search needs
+
+refuse-requires-2 : tie.Need-refuse-requires-2
+refuse-requires-2 c κs = search needs
+
+returns-2 : tie.Need-returns-2
+returns-2 c = search (target-fine, needs)
+
+returns-3 : tie.Need-returns-3
+returns-3 c = search (target-broken, needs)
+
+pub check-target-spec : {M : Type 1} → statement M
+check-target-spec =
+    tie.close
+    (tie.spec
+    refuse-requires
+    returns
+    check-record-requires
+    enum-told
+    enum-known-refusal
+    refuse-requires-2
+    returns-2
+    returns-3)
