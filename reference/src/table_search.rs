@@ -1,6 +1,7 @@
-//! The call reduce with a plainer search, so that times can be compared with the search the same.
-//! A table marks the pairs of slots that were tried in vain; every form is counted by itself, and
-//! the tests for half-end moves are made anew each time.
+//! The call reduce with the search of the proved library, so that times can be compared with the
+//! search the same. A table marks the pairs of slots that need not be tried again; of the slots before
+//! the one changed last, only their pairs with that one are tried; the tests for half-end moves are
+//! made anew each time.
 
 use crate::answers::Answer;
 use crate::moves::{Form, Move, LOG_RECORD};
@@ -16,8 +17,10 @@ struct Table {
     letters: [[u8; RECORD]; MOST_RECORDS],
     lengths: [usize; MOST_RECORDS],
     count: usize,
-    /// For each slot k and each slot i, whether all four forms of i on k were tried in vain.
+    /// For each slot k and each slot i, whether no form of i shortens k.
     in_vain: [[bool; MOST_RECORDS]; MOST_RECORDS],
+    /// The slot changed last: no slot before it is shortened by another than this.
+    last: usize,
 }
 
 /// How many letter pairs cancel between w(i), the other word, and w(k), the changed one.
@@ -39,7 +42,11 @@ impl Table {
             lengths: [0; MOST_RECORDS],
             count: given.count(),
             in_vain: [[false; MOST_RECORDS]; MOST_RECORDS],
+            last: 0,
         };
+        for slot in 0..MOST_RECORDS {
+            table.in_vain[slot][slot] = true;
+        }
         for (slot, letters) in given.letters().iter().enumerate() {
             table.lengths[slot] = free_reduction(letters, &mut table.letters[slot]);
         }
@@ -60,21 +67,33 @@ impl Table {
     /// The first move that makes a word strictly shorter, by changed slot, other slot and form.
     fn first_shortening(&mut self) -> Option<Move> {
         for changed in 0..self.count {
-            for other in 0..self.count {
-                if other == changed || self.in_vain[changed][other] {
+            let others = if changed < self.last {
+                self.last..self.last + 1
+            } else {
+                0..self.count
+            };
+            for other in others {
+                if self.in_vain[changed][other] {
                     continue;
                 }
                 let (word, by) = (self.word(changed), self.word(other));
+                let mut most = 0;
                 for form in Form::ALL {
-                    if 2 * cancelled(form, by, word) > by.len() {
+                    let count = cancelled(form, by, word);
+                    if 2 * count > by.len() {
                         return Some(Move {
                             changed,
                             form,
                             other,
                         });
                     }
+                    most = most.max(count);
                 }
+                let both = 2 * most <= word.len();
                 self.in_vain[changed][other] = true;
+                if both {
+                    self.in_vain[other][changed] = true;
+                }
             }
         }
         None
@@ -126,7 +145,8 @@ impl Table {
         None
     }
 
-    /// Makes a move of the rules and clears the row and the column of the changed slot.
+    /// Makes a move of the rules and clears the row and the column of the changed slot, or fills
+    /// them where that slot is blank now.
     fn make(&mut self, step: Move) {
         let other = self.letters[step.other];
         let by = &other[..self.lengths[step.other]];
@@ -147,10 +167,13 @@ impl Table {
             Form::InverseAfter => copy_inverse(&by[..rest], &mut word[kept..kept + rest]),
         }
         self.lengths[step.changed] = kept + rest;
-        self.in_vain[step.changed] = [false; MOST_RECORDS];
+        let blank = kept + rest == 0;
+        self.in_vain[step.changed] = [blank; MOST_RECORDS];
         for row in &mut self.in_vain {
-            row[step.changed] = false;
+            row[step.changed] = blank;
         }
+        self.in_vain[step.changed][step.changed] = true;
+        self.last = step.changed;
     }
 
     /// Makes all moves of the rules, writes them into the log and returns their number.
@@ -177,7 +200,7 @@ impl Table {
     }
 }
 
-/// Does what reduce does, with the plainer search.
+/// Does what reduce does, with the search of the proved library.
 pub fn reduce_by_table(system: &[u8], words: &mut [u8], log: &mut [u8]) -> Answer {
     reduce_or_refuse(system, words, log).unwrap_or_else(Answer::refused)
 }

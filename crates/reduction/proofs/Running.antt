@@ -1,6 +1,7 @@
 -- The run of moves: the words, the log and the marks after each of them, and what the run comes to.
 use Prim.Native.Nat.{ℕ, zero, suc, _+_, _-_, _*_, _/_, _≤_, _<_}
 use mathlib.Core.Path.{_≡_, refl, sym, ap, ap₂, _∙_}
+use mathlib.Core.Logic.{_⊎_, inl, inr}
 use mathlib.Core.Bool.{Bool, true, false}
 use mathlib.Core.Option.{Option, none, some}
 use mathlib.Core.List.{List, [], _∷_, _++_, append-assoc}
@@ -24,7 +25,9 @@ use Rattle.records.proofs.Holding.{held-word, held-length}
 use Rattle.moves.specs.Logs.{logRecord, logOf, moveOf}
 use Rattle.moves.specs.declared.log.Step.{Step}
 use Rattle.moves.proofs.Logging.{logOf-last, logOf-length}
-use Rattle.reduction.specs.Searches.{foundMove, FoundBelow, Marked}
+use Rattle.reduction.specs.Searches.{foundMove, FoundBelow, Marked, Added, Settled}
+use Rattle.reduction.proofs.Marking.{marked-more, settled-made}
+use Rattle.reduction.proofs.Searching.{blank-other, blank-changed}
 use Rattle.reduction.specs.Reduction.{isNone, stopped}
 use Rattle.reduction.specs.declared.search.Found.{Found}
 use Rattle.reduction.specs.declared.search.Found.the-variants.{Move as FoundMove, Nothing}
@@ -61,6 +64,26 @@ pub advanced : (n : ℕ) (letters lengths : List ℕ) (T : List (List ℕ)) {r :
     → r ≡ leb (length (movedWord bytes (held n letters lengths) (moveOf m))) 63
     → (r ≡ true → T ≡ made bytes (held n letters lengths) (moveOf m)) → T ≡ made bytes (held n letters lengths) (moveOf m)
 advanced n letters lengths T m short tidy h e fits told = told (fits ∙ next-fits n letters lengths short tidy m h e)
+
+-- it keeps the words freely reduced, and the marks true
+pub turn-tidy : (S T : List (List ℕ)) (m : Move) → Tidy bytes S → T ≡ made bytes S m → Tidy bytes T
+turn-tidy S T m tidy e = rw e (made-tidy bytes byteLaws S m tidy)
+
+pub turn-marked : (n : ℕ) (S T : List (List ℕ)) (marks : List ℕ) (m : Move) → T ≡ made bytes S m → Marked n (made bytes S m) marks → Marked n T marks
+turn-marked n S T marks m e marked = rw e marked
+
+-- the pairs with a blank slot
+pub blank-marked : (n c size : ℕ) (letters lengths marks marks′ : List ℕ) → n ≤ 16 → c < n → Tidy bytes (held n letters lengths)
+    → size ≡ getD lengths c 0 → size ≡ 0 → Marked n (held n letters lengths) marks → Added (λ a b. (a ≡ c) ⊎ (b ≡ c)) marks marks′
+    → Marked n (held n letters lengths) marks′
+blank-marked n c size letters lengths marks marks′ few inside tidy told blank marked added =
+    let S : List (List ℕ) = held n letters lengths in
+    let empty : length (word bytes S c) ≡ 0 =
+    rw (held-word n c letters lengths inside, length-take (getD lengths c 0) (drop (c * 64) letters)) (omega (arith, told, blank)) in
+    marked-more n S (λ a b. (a ≡ c) ⊎ (b ≡ c)) marks marks′ few marked added (λ k i hk hi p. elim p [
+      | inl q ↦ blank-changed S tidy k i (rw q empty)
+      | inr q ↦ blank-other S tidy k i (rw q empty)
+    ])
 
 -- the run so far: S is the system at first, T the words after used moves, log the log after them
 module _ (S T : List (List ℕ)) (used : ℕ) (here : T ≡ runWithin bytes used S) where
@@ -130,30 +153,27 @@ module _ (S T : List (List ℕ)) (used : ℕ) (here : T ≡ runWithin bytes used
     full-log log₀ log count e =
         log-written log₀ log count e ∙ ap (λ (k : ℕ). written (logOf (movesWithin bytes k S)) log₀) same-room
 
--- the next move keeps the words freely reduced
-pub turn-tidy : (S T : List (List ℕ)) (m : Move) → Tidy bytes S → T ≡ made bytes S m → Tidy bytes T
-turn-tidy S T m tidy e = rw e (made-tidy bytes byteLaws S m tidy)
-
-pub turn-marked : (n : ℕ) (S T : List (List ℕ)) (marks : List ℕ) (m : Move) → T ≡ made bytes S m → Marked n (made bytes S m) marks → Marked n T marks
-turn-marked n S T marks m e marked = rw e marked
-
 -- the same for a move that a search found
 module _ (S T : List (List ℕ)) (used : ℕ) (here : T ≡ runWithin bytes used S) (r : Found) (told : foundMove r ≡ next bytes T) (m : Step)
     (found : r ≡ FoundMove m) where
   more-left : next bytes T ≡ some (moveOf m)
   more-left = found-next T r told m found
 
-  pub found-words : (T′ : List (List ℕ)) → T′ ≡ made bytes T (moveOf m) → T′ ≡ runWithin bytes (used + 1) S
-  found-words T′ e = turn-words S T used here T′ (moveOf m) more-left e
+  pub found-tidy : (T′ : List (List ℕ)) → Tidy bytes T → T′ ≡ made bytes T (moveOf m) → Tidy bytes T′
+  found-tidy T′ tidy e = turn-tidy T T′ (moveOf m) tidy e
 
-  pub found-count : length (movesWithin bytes (used + 1) S) ≡ used + 1
-  found-count = turn-count S T used here (moveOf m) more-left
+  module _ (used′ : ℕ) (counted : used′ ≡ used + 1) where
+    pub found-words : (T′ : List (List ℕ)) → T′ ≡ made bytes T (moveOf m) → T′ ≡ runWithin bytes used′ S
+    found-words T′ e = rw counted (turn-words S T used here T′ (moveOf m) more-left e)
 
-  pub found-log : (log₀ log log′ : List ℕ) → length (movesWithin bytes used S) ≡ used
-      → log ≡ logOf (movesWithin bytes used S) ++ drop (used * 4) log₀
-      → log′ ≡ take (used * 4) log ++ (logRecord (moveOf m) ++ drop (used * 4 + 4) log)
-      → log′ ≡ logOf (movesWithin bytes (used + 1) S) ++ drop ((used + 1) * 4) log₀
-  found-log log₀ log log′ count before after = turn-log S T used here log₀ log log′ (moveOf m) more-left count before after
+    pub found-count : length (movesWithin bytes used′ S) ≡ used′
+    found-count = rw counted (turn-count S T used here (moveOf m) more-left)
+
+    pub found-log : (log₀ log log′ : List ℕ) → length (movesWithin bytes used S) ≡ used
+        → log ≡ logOf (movesWithin bytes used S) ++ drop (used * 4) log₀
+        → log′ ≡ take (used * 4) log ++ (logRecord (moveOf m) ++ drop (used * 4 + 4) log)
+        → log′ ≡ logOf (movesWithin bytes used′ S) ++ drop (used′ * 4) log₀
+    found-log log₀ log log′ count before after = rw counted (turn-log S T used here log₀ log log′ (moveOf m) more-left count before after)
 
   module _ (room : ℕ) (few : used ≤ room) (full : room ≤ used) where
     pub left-moves : used ≡ length (movesWithin bytes room S)
@@ -178,3 +198,13 @@ module _ (n : ℕ) (r : Found) (below : FoundBelow n r) (m : Step) (found : r �
 
   pub found-form : m .form < 4
   found-form = found-below n r below m found .2
+
+  pub found-last : m .changed ≤ n - 1
+  found-last = omega (arith, found-changed)
+
+  -- after it, the slots before its changed slot are shortened by that one alone
+  pub found-settled : (letters lengths : List ℕ) (T : List (List ℕ)) → foundMove r ≡ next bytes (held n letters lengths)
+      → T ≡ made bytes (held n letters lengths) (moveOf m) → Settled n T (m .changed)
+  found-settled letters lengths T told e =
+      settled-made n (held n letters lengths) T (moveOf m) (held-length n letters lengths) found-changed
+      (found-next (held n letters lengths) r told m found) e

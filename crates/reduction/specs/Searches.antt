@@ -1,24 +1,21 @@
 -- What a search for a move tests and finds, and which pairs of slots need not be tried again.
 -- No public contract speaks of these.
-use Prim.Native.Nat.{ℕ, _+_, _*_, _<_}
+use Prim.Native.Nat.{ℕ, _+_, _*_, _≤_, _<_}
 use mathlib.Core.Path.{_≡_}
+use mathlib.Core.Logic.{_⊎_}
 use mathlib.Core.Bool.{Bool, _||_}
 use mathlib.Core.Option.{Option, none, some}
 use mathlib.Core.List.{List}
-use lib.ListN.{length, getD}
-use lib.Dec.{ltb}
+use lib.ListN.{getD}
 use Rattle.words.specs.Letters.{bytes}
 use Rattle.words.specs.Words.{inverse}
 use Rattle.systems.specs.Products.{word}
-use Rattle.systems.specs.Moves.{Move, seam}
-use Rattle.systems.specs.Rules.{formAt, tryOther, anyBelow, firstHalf, secondHalf, begins, elsewhere}
+use Rattle.systems.specs.Moves.{Move}
+use Rattle.systems.specs.Rules.{tryOther, anyBelow, firstHalf, secondHalf, begins, elsewhere}
 use Rattle.moves.specs.Logs.{moveOf}
+use Rattle.reduction.specs.declared.marks.Slots.{Slots}
 use Rattle.reduction.specs.declared.search.Found.{Found}
 use Rattle.reduction.specs.declared.search.Found.the-variants.{Move as FoundMove, Nothing}
-
--- more than half of the other word cancels in a form, counted from 0
-unfoldable pub overHalf : ℕ → List ℕ → List ℕ → Bool
-overHalf form other changed = ltb (length other) (2 * seam bytes (formAt form) other changed)
 
 -- a word v or its inverse begins with the first half of w
 unfoldable pub meetsFront : List ℕ → List ℕ → Bool
@@ -50,8 +47,22 @@ FoundBelow n (FoundMove m) = (m .changed < n) × (m .other < n) × (m .form < 4)
 abbrev pub Marked : ℕ → List (List ℕ) → List ℕ → Type 0
 Marked n S marks = (k i : ℕ) → k < n → i < n → (getD marks (k * 16 + i) 0 ≡ 0 → ⊥) → tryOther bytes S k i ≡ none
 
--- a table after the marks of all pairs with slot c were taken away: what is still marked was so, and has nothing to do with c
+-- a table after the marks of all pairs with slot c were taken away, but that of c's with itself: what is still marked was so, and has
+-- nothing to do with c
 abbrev pub Forgotten : ℕ → List ℕ → List ℕ → Type 0
 Forgotten c marks marks′ =
     (k i : ℕ) → k < 16 → i < 16 → (getD marks′ (k * 16 + i) 0 ≡ 0 → ⊥)
-    → (k ≡ c → ⊥) × (i ≡ c → ⊥) × (getD marks (k * 16 + i) 0 ≡ 0 → ⊥)
+    → (k ≡ i) ⊎ ((k ≡ c → ⊥) × (i ≡ c → ⊥) × (getD marks (k * 16 + i) 0 ≡ 0 → ⊥))
+
+-- a table after marks were added: what is marked is one of those pairs, or was marked before
+abbrev pub Added : (ℕ → ℕ → Type 0) → List ℕ → List ℕ → Type 0
+Added pair marks marks′ =
+    (a b : ℕ) → a < 16 → b < 16 → (getD marks′ (a * 16 + b) 0 ≡ 0 → ⊥) → pair a b ⊎ (getD marks (a * 16 + b) 0 ≡ 0 → ⊥)
+
+-- after a move that changed slot c, no slot before c is shortened by one other than c
+abbrev pub Settled : ℕ → List (List ℕ) → ℕ → Type 0
+Settled n S c = (k i : ℕ) → k < c → i < n → (i ≡ c → ⊥) → tryOther bytes S k i ≡ none
+
+-- a slot outside a row need not be tried with slot k: k comes before slot c, and the slot is not c
+abbrev pub Outside : ℕ → ℕ → ℕ → Slots → Type 0
+Outside n c k row = (j : ℕ) → j < n → (row .from ≤ j → j < row .to → ⊥) → (k < c) × (j ≡ c → ⊥)

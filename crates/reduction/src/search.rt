@@ -2,14 +2,17 @@
 ghost use mathlib.Core.Path.{_≡_};
 ghost use mathlib.Core.Bool.{true, false};
 ghost use mathlib.Core.Option.{none, some};
-ghost use Prim.Native.Nat.{_+_, _*_, _%_, _≤_, _<_};
+ghost use Prim.Native.Nat.{_+_, _-_, _*_, _%_, _≤_, _<_, max};
 ghost use lib.ListN.{length, getD};
 ghost use Rattle.words.specs.Letters.{bytes};
 ghost use Rattle.systems.specs.Products.{Tidy, word};
 ghost use Rattle.systems.specs.Moves.{seam};
 ghost use Rattle.systems.specs.Rules.{formAt, shortening, halfEnd, next, qualifies, shortestBelow};
 ghost use Rattle.records.specs.Held.{heldWord, held, Short};
-ghost use Rattle.reduction.specs.Searches.{overHalf, meetsFront, meetsBack, frontElsewhere, backElsewhere, foundMove, FoundBelow, Marked};
+ghost use Rattle.reduction.specs.Searches.{meetsFront, meetsBack, frontElsewhere, backElsewhere, foundMove, FoundBelow, Marked, Settled};
+use crate::marks::is_fresh;
+use crate::marks::mark;
+use crate::marks::others_of;
 use moves::cancellation::cancel;
 use moves::cancellation::common_back;
 use moves::cancellation::common_front;
@@ -54,38 +57,30 @@ pub fn seam_of(form: usize, other: &[u8], changed: &[u8]) -> usize
     common_back(changed, other)
 }
 
-// Whether a form shortens the changed word: more than half of the other word cancels.
-fn shortens(form: usize, other: &[u8], changed: &[u8]) -> bool
-    requires { ⌜ form < 4 ⌝ }
-    ensures { λ r. ⌜ r ≡ overHalf form (now (other .entry)) (now (changed .entry)) ⌝ }
+// The greater of two numbers.
+fn greatest(a: usize, b: usize) -> usize
+    ensures { λ r. ⌜ r ≡ max a b ⌝ }
 {
-    let size = other.len();
-    let c = seam_of(form, other, changed);
-    size < 2 * c
+    if a < b { b } else { a }
 }
 
-// Whether a pair of slots has to be tried: the two differ, and the pair is not marked.
-fn is_fresh(marks: &[u8], k: usize, i: usize) -> bool
-    requires { ⌜ (k < 16) × (i < 16) × (length (now marks) ≡ 256) ⌝ }
-    ensures fresh { λ r. ⌜ (r ≡ true → i ≡ k → ⊥) ⌝ }
-    ensures stale { λ r. ⌜ (r ≡ false → (i ≡ k → ⊥) → getD (now (marks .entry)) (k * 16 + i) 0 ≡ 0 → ⊥) ⌝ }
-{
-    if i == k {
-        return false;
-    }
-    marks[k * 16 + i] == 0
-}
-
-// The first shortening move, in the order of changed slot, other slot and form. Pairs that are marked are passed over, and those tried in
-// vain are marked.
-pub fn find_shortening(letters: &[u8], lengths: &[usize], n: usize, marks: &mut [u8]) -> Found
-    requires { ⌜ n ≤ 16 ⌝ }
+// The first shortening move, in the order of changed slot, other slot and form: more than half of the other word cancels. Pairs that were
+// tried in vain are passed over; those that are tried in vain now are marked, both ways round where at most half of either word cancels.
+pub fn find_shortening(
+    letters: &[u8],
+    lengths: &[usize],
+    n: usize,
+    last: usize,
+    marks: &mut [u8],
+) -> Found
+    requires { ⌜ (n ≤ 16) × (last ≤ n - 1) ⌝ }
     requires { ⌜ length (now letters) ≡ 1024 ⌝ }
     requires { ⌜ length (now lengths) ≡ 16 ⌝ }
     requires { ⌜ Short (now lengths) ⌝ }
     requires { ⌜ Tidy bytes (held n (now letters) (now lengths)) ⌝ }
     requires { ⌜ length (now marks) ≡ 256 ⌝ }
     requires { ⌜ Marked n (held n (now letters) (now lengths)) (now marks) ⌝ }
+    requires { ⌜ Settled n (held n (now letters) (now lengths)) last ⌝ }
     ensures found { λ r. ⌜ foundMove r ≡ shortening bytes (held n (now (letters .entry)) (now (lengths .entry))) ⌝ }
     ensures below { λ r. ⌜ FoundBelow n r ⌝ }
     ensures marked { λ _. ⌜ Marked n (held n (now (letters .entry)) (now (lengths .entry))) (now (marks .exit)) ⌝ }
@@ -94,15 +89,19 @@ pub fn find_shortening(letters: &[u8], lengths: &[usize], n: usize, marks: &mut 
     let mut k = 0;
     'search: while k < n {
         let changed = word_at(letters, lengths, k);
-        let mut i = 0;
-        while i < n {
+        let slots = others_of(n, last, k);
+        let mut i = slots.from;
+        let end = slots.to;
+        while i < end {
             let fresh = is_fresh(marks, k, i);
             if fresh {
                 let other = word_at(letters, lengths, i);
+                let size = other.len();
+                let mut most = 0;
                 let mut form = 0;
                 while form < 4 {
-                    let shorter = shortens(form, other, changed);
-                    if shorter {
+                    let c = seam_of(form, other, changed);
+                    if size < 2 * c {
                         found = Found::Move(Step {
                             changed: k,
                             form,
@@ -110,9 +109,11 @@ pub fn find_shortening(letters: &[u8], lengths: &[usize], n: usize, marks: &mut 
                         });
                         break 'search;
                     }
+                    most = greatest(most, c);
                     form += 1;
                 }
-                marks[k * 16 + i] = 1;
+                let both = 2 * most <= changed.len();
+                mark(marks, k, i, both);
             }
             i += 1;
         }
@@ -297,19 +298,26 @@ pub fn find_half_end(letters: &[u8], lengths: &[usize], n: usize) -> Found
 }
 
 // The next move of the rules: a shortening, or else a half-end move.
-pub fn find_move(letters: &[u8], lengths: &[usize], n: usize, marks: &mut [u8]) -> Found
-    requires { ⌜ n ≤ 16 ⌝ }
+pub fn find_move(
+    letters: &[u8],
+    lengths: &[usize],
+    n: usize,
+    last: usize,
+    marks: &mut [u8],
+) -> Found
+    requires { ⌜ (n ≤ 16) × (last ≤ n - 1) ⌝ }
     requires { ⌜ length (now letters) ≡ 1024 ⌝ }
     requires { ⌜ length (now lengths) ≡ 16 ⌝ }
     requires { ⌜ Short (now lengths) ⌝ }
     requires { ⌜ Tidy bytes (held n (now letters) (now lengths)) ⌝ }
     requires { ⌜ length (now marks) ≡ 256 ⌝ }
     requires { ⌜ Marked n (held n (now letters) (now lengths)) (now marks) ⌝ }
+    requires { ⌜ Settled n (held n (now letters) (now lengths)) last ⌝ }
     ensures found { λ r. ⌜ foundMove r ≡ next bytes (held n (now (letters .entry)) (now (lengths .entry))) ⌝ }
     ensures below { λ r. ⌜ FoundBelow n r ⌝ }
     ensures marked { λ _. ⌜ Marked n (held n (now (letters .entry)) (now (lengths .entry))) (now (marks .exit)) ⌝ }
 {
-    let found = find_shortening(letters, lengths, n, marks);
+    let found = find_shortening(letters, lengths, n, last, marks);
     let Found::Nothing = found else {
         return found;
     };

@@ -3,6 +3,7 @@ ghost use mathlib.Core.Path.{_≡_};
 ghost use Rattle.reduction.specs.Reduction.{refusedTest, testAnswer};
 ghost use Rattle.reduction.specs.Meaning.{TestMeans};
 use crate::answers::Tested;
+use crate::marks::mark_own;
 use crate::search::Found;
 use crate::search::find_move;
 use records::answers::Checked;
@@ -31,8 +32,9 @@ fn test_records(system: &[u8]) -> Tested
     let mut letters = [0u8; 1024];
     let mut lengths = [0usize; 16];
     let mut marks = [0u8; 256];
+    mark_own(&mut marks);
     load(system, &mut letters, &mut lengths);
-    let found = find_move(&letters, &lengths, n, &mut marks);
+    let found = find_move(&letters, &lengths, n, 0, &mut marks);
     let Found::Nothing = found else {
         return Tested {
             verdict: Verdict::Done,

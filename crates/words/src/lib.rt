@@ -10,7 +10,7 @@ ghost use Rattle.words.specs.Words.{reduce};
 pub fn flip(x: u8) -> u8
     ensures { λ r. ⌜ r ≡ flipByte x ⌝ }
 {
-    if x % 64 < 32 { x + 32 } else { x - 32 }
+    x ^ 32
 }
 
 // Puts one more letter after the freely reduced word at the beginning of a buffer, and answers the new length.

@@ -2,8 +2,7 @@
 use Prim.Native.Nat.{_≤_, _-_}
 use mathlib.Core.Path.{_≡_}
 use native.Mathlib.Omega.{arith}
-use lib.ListN.{length-set}
-use lib.ListN.{length}
+use lib.ListN.{length, length-set}
 use borrow.Author.Needs.{needs}
 use Rattle.reduction.proofs.Marking.{Forgot, forgot-begin, forgot-more, forgot-all}
 use Rattle.reduction.proofs.marks.forget.Statement.{statement}
@@ -45,8 +44,17 @@ loop-less c = search needs
 loop-again : tie.Need-loop-again Inv-loop μ-loop
 loop-again c = search (forgot-more, needs)
 
+mul-marks : tie.Need-mul-marks Inv-loop μ-loop
+mul-marks c = search needs
+
+add-marks : tie.Need-add-marks Inv-loop μ-loop
+add-marks c = search needs
+
+slice-write-marks-3 : tie.Need-slice-write-marks-3 Inv-loop μ-loop
+slice-write-marks-3 c = search needs
+
 same-length : tie.Need-same-length Inv-loop μ-loop
-same-length c = search needs
+same-length c = simp length-set (search needs)
 
 returns : tie.Need-returns Inv-loop μ-loop
 returns c = search (forgot-all, needs)
@@ -67,5 +75,8 @@ forget-spec =
     add-j
     loop-less
     loop-again
+    mul-marks
+    add-marks
+    slice-write-marks-3
     same-length
     returns)

@@ -1,8 +1,9 @@
 -- `reduction::search::find_shortening` meets its contract. The invariants of the three loops: nothing is found before slot k, nor before
 -- slot i with k, nor before the form with k and i; the table of pairs stays true. The measures are what is left to try.
-use Prim.Native.Nat.{_-_}
+use Prim.Native.Nat.{_-_, _≤_}
 use mathlib.Core.Logic.{⊎-elim}
-use mathlib.Core.Path.{_≡_}
+use mathlib.Core.Path.{_≡_, sym, _∙_}
+use lib.ListN.{length}
 use borrow.Author.Needs.{needs}
 use Rattle.records.specs.Held.{heldWord}
 use Rattle.reduction.proofs.Searching.{Changed, Others, Forms, changed-begin, others-begin, forms-begin, forms-turn, forms-end, others-stale, others-end, changed-end, changed-below, forms-found, forms-below}
@@ -10,23 +11,23 @@ use Rattle.reduction.proofs.search.find_shortening.Statement.{statement
 use Rattle.reduction.proofs.search.find_shortening.Tie as tie
 
 abbrev Inv-loop2 : tie.InvT-loop2
-Inv-loop2 letters lengths n marks found₀ k changed i fresh other form₀ found form =
-    Forms letters lengths marks n k i form found × (changed ≡ heldWord letters lengths k) × (other ≡ heldWord letters lengths i)
+Inv-loop2 letters lengths n last marks found₀ k changed i end fresh other size most₀ form₀ found most form =
+    Forms letters lengths marks n last k i end form most found × (changed ≡ heldWord letters lengths k) × (other ≡ heldWord letters lengths i) × (size ≡ length other) × (most ≤ length other) × (length marks ≡ 256)
 
 abbrev μ-loop2 : tie.MeasureT-loop2
-μ-loop2 letters lengths n marks found₀ k changed i fresh other form₀ found form = 4 - form
+μ-loop2 letters lengths n last marks found₀ k changed i end fresh other size most₀ form₀ found most form = 4 - form
 
 abbrev Inv-loop : tie.InvT-loop
-Inv-loop letters lengths n marks₀ found₀ k changed i₀ marks found i = Others letters lengths marks n k i found × (changed ≡ heldWord letters lengths k)
+Inv-loop letters lengths n last marks₀ found₀ k changed i₀ end marks found i = Others letters lengths marks n last k i end found × (changed ≡ heldWord letters lengths k)
 
 abbrev μ-loop : tie.MeasureT-loop
-μ-loop letters lengths n marks₀ found₀ k changed i₀ marks found i = n - i
+μ-loop letters lengths n last marks₀ found₀ k changed i₀ end marks found i = end - i
 
 abbrev Inv-search : tie.InvT-search
-Inv-search letters lengths n marks₀ found₀ k₀ marks found k = Changed letters lengths marks n k found
+Inv-search letters lengths n last marks₀ found₀ k₀ marks found k = Changed letters lengths marks n last k found
 
 abbrev μ-search : tie.MeasureT-search
-μ-search letters lengths n marks₀ found₀ k₀ marks found k = n - k
+μ-search letters lengths n last marks₀ found₀ k₀ marks found k = n - k
 
 search-holds : tie.Need-search-holds Inv-loop2 μ-loop2 Inv-loop μ-loop Inv-search μ-search
 search-holds c = search (changed-begin, needs)
@@ -34,8 +35,12 @@ search-holds c = search (changed-begin, needs)
 word-at-requires : tie.Need-word-at-requires Inv-loop2 μ-loop2 Inv-loop μ-loop Inv-search μ-search
 word-at-requires c κs = search needs
 
+others-of-requires :
+    tie.Need-others-of-requires Inv-loop2 μ-loop2 Inv-loop μ-loop Inv-search μ-search
+others-of-requires c κs = search needs
+
 loop-holds : tie.Need-loop-holds Inv-loop2 μ-loop2 Inv-loop μ-loop Inv-search μ-search
-loop-holds c = search (others-begin, needs)
+loop-holds c = (search (others-begin, needs), search needs)
 
 is-fresh-requires :
     tie.Need-is-fresh-requires Inv-loop2 μ-loop2 Inv-loop μ-loop Inv-search μ-search
@@ -46,11 +51,17 @@ word-at-requires-2 :
 word-at-requires-2 c κs = search needs
 
 loop2-holds : tie.Need-loop2-holds Inv-loop2 μ-loop2 Inv-loop μ-loop Inv-search μ-search
-loop2-holds c = search (forms-begin, needs)
+loop2-holds c = (search (forms-begin, needs), search needs, search needs, search needs, search needs, search needs)
 
-shortens-requires :
-    tie.Need-shortens-requires Inv-loop2 μ-loop2 Inv-loop μ-loop Inv-search μ-search
-shortens-requires c κs = search needs
+seam-of-requires : tie.Need-seam-of-requires Inv-loop2 μ-loop2 Inv-loop μ-loop Inv-search μ-search
+seam-of-requires c κs = search needs
+
+mul-if2 : tie.Need-mul-if2 Inv-loop2 μ-loop2 Inv-loop μ-loop Inv-search μ-search
+mul-if2 c = search needs
+
+greatest-requires :
+    tie.Need-greatest-requires Inv-loop2 μ-loop2 Inv-loop μ-loop Inv-search μ-search
+greatest-requires c κs = search needs
 
 add-form : tie.Need-add-form Inv-loop2 μ-loop2 Inv-loop μ-loop Inv-search μ-search
 add-form c = search needs
@@ -59,17 +70,13 @@ loop2-less : tie.Need-loop2-less Inv-loop2 μ-loop2 Inv-loop μ-loop Inv-search 
 loop2-less c = search needs
 
 loop2-again : tie.Need-loop2-again Inv-loop2 μ-loop2 Inv-loop μ-loop Inv-search μ-search
-loop2-again c = (search (forms-turn, needs), search needs, search needs)
+loop2-again c = (search (forms-turn, needs), search needs, search needs, search needs, search needs, search needs)
 
-mul-marks : tie.Need-mul-marks Inv-loop2 μ-loop2 Inv-loop μ-loop Inv-search μ-search
-mul-marks c = search needs
+mul-both : tie.Need-mul-both Inv-loop2 μ-loop2 Inv-loop μ-loop Inv-search μ-search
+mul-both c = search needs
 
-add-marks : tie.Need-add-marks Inv-loop2 μ-loop2 Inv-loop μ-loop Inv-search μ-search
-add-marks c = search needs
-
-slice-write-marks :
-    tie.Need-slice-write-marks Inv-loop2 μ-loop2 Inv-loop μ-loop Inv-search μ-search
-slice-write-marks c = search needs
+mark-requires : tie.Need-mark-requires Inv-loop2 μ-loop2 Inv-loop μ-loop Inv-search μ-search
+mark-requires c κs = search needs
 
 add-i : tie.Need-add-i Inv-loop2 μ-loop2 Inv-loop μ-loop Inv-search μ-search
 add-i c = search needs
@@ -79,7 +86,7 @@ loop-less c = search needs
 
 loop-again : tie.Need-loop-again Inv-loop2 μ-loop2 Inv-loop μ-loop Inv-search μ-search
 loop-again c =
-    (⊎-elim (λ w. search (forms-end, needs)) (λ w. search (others-stale, needs)) (c .if1 .came), search needs)
+    (⊎-elim (λ w. forms-end _ _ _ _ _ _ _ _ _ _ _ (w .2 .inv .0) _ _ _ _ _ (w .8) (w .9) (w .2 .inv .1) (w .5 .ensures) (search needs) (search needs) (search needs)) (λ w. search (others-stale, needs)) (c .if1 .came), search needs)
 
 add-k : tie.Need-add-k Inv-loop2 μ-loop2 Inv-loop μ-loop Inv-search μ-search
 add-k c = search needs
@@ -97,7 +104,7 @@ returns : tie.Need-returns Inv-loop2 μ-loop2 Inv-loop μ-loop Inv-search μ-sea
 returns c = (search (changed-end, needs), (search (changed-below, needs), search needs))
 
 same-length-2 : tie.Need-same-length-2 Inv-loop2 μ-loop2 Inv-loop μ-loop Inv-search μ-search
-same-length-2 c = search needs
+same-length-2 c = c .before .before .before .loop2 .inv .5 ∙ sym (c .before .before .before .before .before .before .before .before .before .before .before .before .before .before .before .before .before .pre .1 .1 .1 .1 .1 .0)
 
 returns-2 : tie.Need-returns-2 Inv-loop2 μ-loop2 Inv-loop μ-loop Inv-search μ-search
 returns-2 c = (search (forms-found, needs), (search (forms-below, needs), search needs))
@@ -114,17 +121,19 @@ find-shortening-spec =
     μ-search
     search-holds
     word-at-requires
+    others-of-requires
     loop-holds
     is-fresh-requires
     word-at-requires-2
     loop2-holds
-    shortens-requires
+    seam-of-requires
+    mul-if2
+    greatest-requires
     add-form
     loop2-less
     loop2-again
-    mul-marks
-    add-marks
-    slice-write-marks
+    mul-both
+    mark-requires
     add-i
     loop-less
     loop-again

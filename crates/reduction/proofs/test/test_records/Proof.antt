@@ -2,7 +2,7 @@
 use borrow.Author.Needs.{needs}
 use Rattle.records.proofs.Calls.{short-zeros}
 use Rattle.reduction.proofs.Calls.{held-tidy, system-size-told, system-few-told, test-refused, test-more, test-none}
-use Rattle.reduction.proofs.Marking.{marked-none}
+use Rattle.reduction.proofs.Marking.{marked-none, marked-own, settled-none}
 use Rattle.reduction.proofs.test.test_records.Statement.{statement}
 use Rattle.reduction.proofs.test.test_records.Tie as tie
 
@@ -20,6 +20,12 @@ untested-requires c κs = search needs
 
 returns : tie.Need-returns
 returns c = search (test-refused, needs)
+
+slice-aggregate-mark-own : tie.Need-slice-aggregate-mark-own
+slice-aggregate-mark-own c = search needs
+
+mark-own-requires : tie.Need-mark-own-requires
+mark-own-requires c κs = search needs
 
 slice-aggregate-load : tie.Need-slice-aggregate-load
 slice-aggregate-load c = search needs
@@ -41,7 +47,7 @@ slice-aggregate-find-move-3 c = search needs
 
 find-move-requires : tie.Need-find-move-requires
 find-move-requires c κs =
-    (search (system-few-told, needs), (search needs, (search needs, (search needs, (search (held-tidy, needs), (search needs, search (marked-none, needs)))))))
+    ((search (system-few-told, needs), search needs), (search needs, (search needs, (search needs, (search (held-tidy, needs), (search needs, (search (marked-own, marked-none, system-few-told, needs), search (settled-none, needs))))))))
 
 enum-told-3 : tie.Need-enum-told-3
 enum-told-3 c = search needs
@@ -64,6 +70,8 @@ test-records-spec =
     enum-told-2
     untested-requires
     returns
+    slice-aggregate-mark-own
+    mark-own-requires
     slice-aggregate-load
     slice-aggregate-load-2
     load-requires
