@@ -70,7 +70,16 @@ loop2-less : tie.Need-loop2-less Inv-loop2 μ-loop2 Inv-loop μ-loop Inv-search 
 loop2-less c = search needs
 
 loop2-again : tie.Need-loop2-again Inv-loop2 μ-loop2 Inv-loop μ-loop Inv-search μ-search
-loop2-again c = (search (forms-turn, needs), search needs, search needs, search needs, search needs, search needs)
+loop2-again c =
+    let counted = c .before .before in
+    let inv = counted .before .before .loop2 .inv in (
+      forms-turn _ _ _ _ _ _ _ _ _ _ _ (inv .0) _ _ _ (counted .seam-of .ensures .0) (inv .2) (inv .1) _ (search needs) (search needs) (search needs),
+      search needs,
+      search needs,
+      search needs,
+      search needs,
+      search needs,
+    )
 
 mul-both : tie.Need-mul-both Inv-loop2 μ-loop2 Inv-loop μ-loop Inv-search μ-search
 mul-both c = search needs
@@ -104,7 +113,10 @@ returns : tie.Need-returns Inv-loop2 μ-loop2 Inv-loop μ-loop Inv-search μ-sea
 returns c = (search (changed-end, needs), (search (changed-below, needs), search needs))
 
 same-length-2 : tie.Need-same-length-2 Inv-loop2 μ-loop2 Inv-loop μ-loop Inv-search μ-search
-same-length-2 c = c .before .before .before .loop2 .inv .5 ∙ sym (c .before .before .before .before .before .before .before .before .before .before .before .before .before .before .before .before .before .pre .1 .1 .1 .1 .1 .0)
+same-length-2 c =
+    let forms = c .before .before .before in
+    let start = forms .before .before .before .before .before .before .before .before .before .before .before .before .before .before in
+    forms .loop2 .inv .5 ∙ sym (start .pre .1 .1 .1 .1 .1 .0)
 
 returns-2 : tie.Need-returns-2 Inv-loop2 μ-loop2 Inv-loop μ-loop Inv-search μ-search
 returns-2 c = (search (forms-found, needs), (search (forms-below, needs), search needs))
