@@ -16,6 +16,7 @@ use Rattle.systems.specs.Products.{Factor, Generated, FreelyReducedOver, multip
 use Rattle.systems.specs.Rules.{next}
 use Rattle.systems.proofs.Searching.{option-cases}
 use Rattle.systems.proofs.ProductLaws.{Named, words-named, word-slot}
+use Rattle.systems.proofs.Ending.{every-run-ends}
 use Rattle.systems.proofs.Runs.{ended-next, no-member, member, member-freely, member-length, member-multiplied, member-only}
 use Rattle.records.specs.Records.{isLetter, slots, wordOf, recordOf, systemOf, bytesOf, written}
 use Rattle.records.specs.Answers.{onFine}
@@ -35,7 +36,7 @@ use Rattle.reduction.specs.Reduction.{roomFor, reduceTests, reduceRules, reduct
 use Rattle.reduction.specs.Meaning.{Reduces}
 use Rattle.reduction.specs.declared.answers.Reduction.{Reduction}
 use Rattle.reduction.proofs.RoundTrip.{AllLetters, word-short, word-back, record-passes, written-take}
-use Rattle.reduction.proofs.Meaning.{runMoves, runWords, stopped-none, none-stopped, left-length, left-bytes, left-back, reduce-means}
+use Rattle.reduction.proofs.Meaning.{words-tidy, runMoves, runWords, stopped-none, none-stopped, left-length, left-bytes, left-back, reduce-means}
 use Rattle.membership.specs.Membership.{
   targetWord,
   productFor,
@@ -307,6 +308,7 @@ pub member-means : (s t words log product : List ℕ) (a : Reduction) (words′ 
     → MemberMeans s t words log product a words′ log′ product′
 member-means s t words log product a words′ log′ product′ answered wrote logged gave =
     record {
+      finite = every-run-ends bytes byteLaws flipByte-moves (reducedWords s) (words-tidy s);
       answered =
           λ room.
           verdict-cases (a .verdict) (productFor (runWords s (roomFor log)) (targetWord t))

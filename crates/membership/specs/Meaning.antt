@@ -54,8 +54,10 @@ pub record Decides (given target W L P : List ℕ) (answer : Reduction) : Type 0
 abbrev pub Answered : Reduction → Type 0
 Answered answer = (answer .verdict ≡ Member) ⊎ (answer .verdict ≡ NotMember)
 
--- wherever there is enough room the target is answered, and every such answer decides: W, L and P are what member wrote
+-- the moves that the rules make are finitely many, so that there can be enough room; wherever there is, the target is answered; and every
+-- such answer decides: W, L and P are what member wrote
 pub record MemberMeans (given target words log product : List ℕ) (answer : Reduction) (words′ log′ product′ : List ℕ) : Type 0 where
+  pub finite : (enoughMoves : ℕ) × (next bytes (runWithin bytes enoughMoves (reducedWords given)) ≡ none)
   pub answered : EnoughRoom given target words log product → Answered answer
   pub decides : Answered answer
       → Decides given target (take (slots given * 64) words′) (take (answer .moves * moveSize) log′) (take 64 product′) answer

@@ -8,6 +8,7 @@ pub mod Shortening
 pub mod Halves
 pub mod HalfEnds
 pub mod Neither
+pub mod Ending
 pub mod ProductLemma
 pub mod Unique
 pub mod Leading
