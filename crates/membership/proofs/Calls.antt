@@ -5,7 +5,7 @@ use mathlib.Core.Path.{_≡_, refl, sym, ap, _∙_}
 use mathlib.Core.Bool.{Bool, true, false, not}
 use mathlib.Core.Option.{Option}
 use mathlib.Core.List.{List}
-use borrow.Author.Tests.{not-true, not-false, lt-leb, le-leb, leb-true}
+use borrow.Author.Tests.{le-leb, leb-true}
 use lib.ListN.{length}
 use lib.Dec.{leb, eqb}
 use Rattle.words.specs.Letters.{bytes}
@@ -15,7 +15,7 @@ use Rattle.systems.specs.Rules.{movesWithin, runWithin}
 use Rattle.systems.specs.Rank.{rank}
 use Rattle.systems.proofs.Neither.{run-tidy}
 use Rattle.records.specs.Records.{slots, bytesOf, written}
-use Rattle.records.specs.Refusals.{refusal, must, systemRules, wordRoom, _andThen_}
+use Rattle.records.specs.Refusals.{must, systemRules, wordRoom, _andThen_}
 use Rattle.records.specs.Held.{held}
 use Rattle.records.specs.Calls.{reducedWords}
 use Rattle.records.specs.declared.answers.Refusal.{Refusal}
@@ -62,10 +62,9 @@ module _ (s t : List ℕ) (room product : ℕ) where
       tests-room e h = then-fine _ _ system passed (then-fine _ _ target passed₂ (then-failed _ _ e h))
 
       module _ {u : Checked} (roomy : u ≡ wordRoom (length s / 64 * 64) room) (passed₃ : u ≡ Fine) where
-        pub tests-product : {x : Checked} → product < 64 → x ≡ refusal 11 0 → x ≡ memberTests s t room product
+        pub tests-product : {x : Checked} → x ≡ must (leb 64 product) 11 0 → x ≡ memberTests s t room product
         unfolding memberTests
-        tests-product bad e =
-            then-fine _ _ system passed (then-fine _ _ target passed₂ (then-fine _ _ roomy passed₃ (rw (lt-leb 64 product bad) e)))
+        tests-product e = then-fine _ _ system passed (then-fine _ _ target passed₂ (then-fine _ _ roomy passed₃ e))
 
         pub tests-fine : 64 ≤ product → Fine ≡ memberTests s t room product
         unfolding memberTests
@@ -143,14 +142,19 @@ module _ (s t words log product : List ℕ) (passed : memberTests s t (length wo
       → log′ ≡ memberLog s t words log product
   run-log log′ told = rw passed told
 
-  -- 13
-  module _ {b : Bool} (ended : b ≡ stopped (runWithin bytes (roomFor log) (reducedWords s))) (more : not b ≡ true) where
-    late : memberRules s t (length words) (length product) (roomFor log) ≡ refusal 13 0
-    late = rules ∙ ap (λ (d : Bool). must d 13 0) (sym ended ∙ not-true b more)
+  judged : {b : Bool} {y : Checked} → b ≡ stopped (runWithin bytes (roomFor log) (reducedWords s)) → y ≡ must b 13 0
+      → memberRules s t (length words) (length product) (roomFor log) ≡ y
+  judged ended told = rules ∙ ap (λ (d : Bool). must d 13 0) (sym ended) ∙ sym told
 
-    pub late-answer : {y : Checked} {a : Reduction} → y ≡ refusal 13 0 → a ≡ refusedReduction y → a ≡ memberAnswer s t words log product
-    late-answer told answer =
-        answer ∙ ap refusedReduction told
+  -- 13
+  module _ {b : Bool} {y : Checked} {f : Refusal} (ended : b ≡ stopped (runWithin bytes (roomFor log) (reducedWords s))) (told : y ≡ must b 13 0)
+      (more : y ≡ Failed f) where
+    late : memberRules s t (length words) (length product) (roomFor log) ≡ Failed f
+    late = judged ended told ∙ more
+
+    pub late-answer : {a : Reduction} → a ≡ refusedReduction y → a ≡ memberAnswer s t words log product
+    late-answer answer =
+        answer ∙ ap refusedReduction more
         ∙ sym (ap (λ (c : Checked). membershipOf c (reducedWords s) (roomFor log) (targetWord t)) late)
 
     pub late-words : words ≡ memberWords s t words log product
@@ -160,9 +164,10 @@ module _ (s t words log product : List ℕ) (passed : memberTests s t (length wo
     late-product = rw late
 
   -- member or not
-  module _ {b : Bool} (ended : b ≡ stopped (runWithin bytes (roomFor log) (reducedWords s))) (done : not b ≡ false) where
+  module _ {b : Bool} {y : Checked} (ended : b ≡ stopped (runWithin bytes (roomFor log) (reducedWords s))) (judgement : y ≡ must b 13 0)
+      (done : y ≡ Fine) where
     whole : memberRules s t (length words) (length product) (roomFor log) ≡ Fine
-    whole = rules ∙ ap (λ (d : Bool). must d 13 0) (sym ended ∙ not-false b done)
+    whole = judged ended judgement ∙ done
 
     module _ (letters lengths : List ℕ) (told : held (slots s) letters lengths ≡ runWithin bytes (roomFor log) (reducedWords s)) where
       pub done-answer : (m r g : ℕ) {v : Verdict} → m ≡ length (movesWithin bytes (roomFor log) (reducedWords s))

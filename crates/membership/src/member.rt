@@ -13,7 +13,7 @@ use crate::factor::ask;
 use multiply::target::check_target;
 use records::answers::Checked;
 use records::answers::Verdict;
-use records::answers::refuse;
+use records::answers::check_that;
 use records::record::RECORD;
 use records::system::check_room;
 use records::system::check_system;
@@ -78,10 +78,10 @@ fn decide(
     let mut letters = [0u8; 1024];
     let mut lengths = [0usize; 16];
     let outcome = reduce_held(system, &mut letters, &mut lengths, log);
-    let ended = outcome.ended;
-    if !ended {
-        return refused(refuse(13, 0));
-    }
+    let ended = check_that(outcome.ended, 13);
+    let Checked::Fine = ended else {
+        return refused(ended);
+    };
     let verdict = conclude(target, n, &letters, &lengths, words, product);
     let rank = outcome.rank;
     let given = outcome.given;
@@ -144,8 +144,5 @@ fn check_member(system: &[u8], target: &[u8], room: usize, product: usize) -> Ch
     let Checked::Fine = roomy else {
         return roomy;
     };
-    if product < RECORD {
-        return refuse(11, 0);
-    }
-    Checked::Fine
+    check_that(product >= RECORD, 11)
 }

@@ -4,17 +4,18 @@ use Prim.Native.Nat.{ℕ, _-_, _/_, _≤_, _<_}
 use mathlib.Core.Path.{_≡_, sym, ap, _∙_}
 use mathlib.Core.List.{List, _++_}
 use native.Mathlib.Omega.{arith}
-use borrow.Author.Tests.{le-leb, lt-leb}
-use lib.ListN.{length, take, drop}
+use lib.Dec.{leb}
+use borrow.Author.Tests.{leb-true}
+use lib.ListN.{length, take, drop, length-take}
 use lib.Seq.{length-take-le}
 use Rattle.records.specs.Records.{slots, recordOf, written}
-use Rattle.records.specs.Refusals.{refusal, systemRules, wordRoom, _andThen_}
+use Rattle.records.specs.Refusals.{must, systemRules, wordRoom, _andThen_}
 use Rattle.records.specs.declared.answers.Refusal.{Refusal}
 use Rattle.records.specs.declared.answers.Checked.{Checked}
 use Rattle.records.specs.declared.answers.Checked.the-variants.{Fine, Failed}
 use Rattle.records.proofs.Rules.{then-failed, then-fine}
 use Rattle.records.proofs.Systems.{record-length}
-use Rattle.records.proofs.Calls.{fine-first, fine-next, system-size, room-enough}
+use Rattle.records.proofs.Calls.{must-fine, fine-first, fine-next, system-size, room-enough}
 use Rattle.multiply.specs.Targets.{targetRules, slotRule}
 use Rattle.multiply.specs.Multiply.{productWord, multiplyTests, multiplyRules}
 use Rattle.multiply.proofs.Targets.{target-sized}
@@ -71,13 +72,9 @@ module _ (s p : List ℕ) (room : ℕ) {x : Checked} (tests : x ≡ multiplyTest
       comes-to = ap length (sym told) ∙ length-take-le size row (omega arith)
 
       -- refusal 12
-      pub rules-long : {y : Checked} → 63 < size → y ≡ refusal 12 0 → y ≡ multiplyRules s p room
+      pub rules-told : {y : Checked} → y ≡ must (leb size 63) 12 0 → y ≡ multiplyRules s p room
       unfolding multiplyRules
-      rules-long h e = then-fine _ _ tests passed (rw (lt-leb (length (productWord s p)) 63 (omega (arith, comes-to))) e)
-
-      pub rules-fine : size ≤ 63 → x ≡ multiplyRules s p room
-      unfolding multiplyRules
-      rules-fine h = then-fine _ _ tests passed (rw (le-leb (length (productWord s p)) 63 (omega (arith, comes-to))) passed)
+      rules-told e = then-fine _ _ tests passed (e ∙ ap (λ (n : ℕ). must (leb n 63) 12 0) (sym comes-to))
 
       -- the record of that word at the beginning of the buffer, and the bytes after it as they were
       pub word-written : {y : List ℕ} (buffer : List ℕ) → size ≤ 63 → y ≡ recordOf (take (size - 0) row)
@@ -88,3 +85,10 @@ module _ (s p : List ℕ) (room : ℕ) {x : Checked} (tests : x ≡ multiplyTest
           let long : 64 ≡ length (recordOf (productWord s p)) = sym (record-length (productWord s p) (omega (arith, comes-to))) in
           ap (λ (l : List ℕ). l ++ drop 64 buffer) (e ∙ ap recordOf word-is)
           ∙ ap (λ (k : ℕ). recordOf (productWord s p) ++ drop k buffer) long
+
+-- a word that passed refusal 12
+pub passed-short : (size : ℕ) {y : Checked} → y ≡ must (leb size 63) 12 0 → y ≡ Fine → size ≤ 63
+passed-short size e h = leb-true size 63 (must-fine (leb size 63) 12 0 (sym e ∙ h))
+
+pub piece-short : (size : ℕ) (row : List ℕ) {y : Checked} → y ≡ must (leb size 63) 12 0 → y ≡ Fine → length (take (size - 0) row) ≤ 63
+piece-short size row e h = rw (length-take (size - 0) row) (omega (arith, passed-short size e h))

@@ -17,8 +17,8 @@ use moves::product::push_inverse;
 use moves::product::push_word;
 use records::answers::Answer;
 use records::answers::Checked;
+use records::answers::check_that;
 use records::answers::outcome;
-use records::answers::refuse;
 use records::record::RECORD;
 use records::record::word_length;
 use records::record::write_record;
@@ -41,11 +41,12 @@ pub fn multiply(system: &[u8], product: &[u8], word: &mut [u8]) -> Answer
     };
     let mut row = [0u8; 4096];
     let size = product_word(system, product, &mut row);
-    if size > 63 {
-        return outcome(refuse(12, 0));
-    }
+    let fitted = check_that(size <= 63, 12);
+    let Checked::Fine = fitted else {
+        return outcome(fitted);
+    };
     write_record(&row[0..size], &mut word[0..64]);
-    outcome(checked)
+    outcome(fitted)
 }
 
 // Refusals 1 to 5, 6, 9 and 10.

@@ -10,7 +10,7 @@ use lib.Dec.{eqb, leb}
 use lib.ListN.{length, take, drop, getD, replicate, List·getD-eq-default, length-replicate}
 use lib.Seq.{getD-take, getD-drop}
 use Rattle.records.specs.Records.{slots, recordAt, bytesOf, written, isStop}
-use Rattle.records.specs.Refusals.{must, systemRules, wordRoom, eachRecord, _andThen_}
+use Rattle.records.specs.Refusals.{refusal, must, systemRules, wordRoom, eachRecord, _andThen_}
 use Rattle.records.specs.Answers.{outcomeOf, onFine}
 use Rattle.records.specs.Held.{held, Short}
 use Rattle.records.specs.Calls.{reducedWords, tidyRules, shown}
@@ -29,6 +29,9 @@ fine-first (Failed f) d e = e
 pub fine-next : (c d : Checked) → c andThen d ≡ Fine → d ≡ Fine
 fine-next Fine d e = e
 fine-next (Failed f) d e = let z : _≡_ {A = ℕ} 0 1 = cc in absurd (omega arith)
+
+pub must-fail : (b : Bool) (n at : ℕ) {x : Checked} → b ≡ false → x ≡ refusal n at → x ≡ must b n at
+must-fail b n at e h = rw e h
 
 pub must-fine : (b : Bool) (n at : ℕ) → must b n at ≡ Fine → b ≡ true
 must-fine true n at e = refl

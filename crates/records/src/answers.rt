@@ -2,6 +2,7 @@
 ghost use mathlib.Core.Path.{_≡_};
 ghost use Prim.Native.Nat.{ℕ};
 ghost use Rattle.records.specs.Answers.{outcomeOf};
+ghost use Rattle.records.specs.Refusals.{must};
 
 // A refusal of document 01: its number, and the place that it names.
 pub struct Refusal {
@@ -33,6 +34,17 @@ pub fn refuse(number: u8, place: usize) -> Checked
     ensures { λ r. ⌜ r ≡ Checked.Failed (record { number = number; place = place }) ⌝ }
 {
     Checked::Failed(Refusal { number, place })
+}
+
+// Nothing where something holds, and elsewhere the refusal with a number, at place 0.
+pub fn check_that(holds: bool, number: u8) -> Checked
+    ensures { λ r. ⌜ r ≡ must holds number 0 ⌝ }
+{
+    if holds {
+        Checked::Fine
+    } else {
+        refuse(number, 0)
+    }
 }
 
 // The answer of such a call, whose tests found what is given.

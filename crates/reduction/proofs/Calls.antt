@@ -1,7 +1,7 @@
 -- The calls reduce and test: their tests and answers, and the rank of words held in arrays.
 use Prim.Native.Nat.{ℕ, zero, suc, _+_, _-_, _*_, _/_, _≤_, _<_}
 use mathlib.Core.Path.{_≡_, refl, sym, ap, ap₂, _∙_}
-use mathlib.Core.Bool.{Bool, true, false, not}
+use mathlib.Core.Bool.{Bool, true, false}
 use mathlib.Core.Option.{Option, none, some}
 use mathlib.Core.List.{List, [], _∷_, _++_}
 use native.Mathlib.Omega.{arith}
@@ -10,7 +10,6 @@ use native.Mathlib.Nat.{le-antisymm}
 use native.Mathlib.Decide.{ℕ-discrete}
 use lib.ListN.{length, take, drop, getD, length-take, length-drop}
 use lib.Dec.{eqb}
-use borrow.Author.Tests.{not-true, not-false}
 use Rattle.words.specs.Letters.{bytes}
 use Rattle.words.proofs.Letters.{byteLaws}
 use Rattle.systems.specs.Products.{Tidy}
@@ -21,7 +20,7 @@ use Rattle.systems.proofs.Equivalence.{reduced-tidy}
 use Rattle.systems.proofs.Runs.{rank-blank, rank-word, rank-length}
 use Rattle.records.specs.Records.{slots, systemOf, bytesOf, written}
 use Rattle.records.specs.Answers.{onFine}
-use Rattle.records.specs.Refusals.{refusal, must, systemRules, wordRoom, _andThen_}
+use Rattle.records.specs.Refusals.{must, systemRules, wordRoom, _andThen_}
 use Rattle.records.specs.Held.{heldWord, held, Short}
 use Rattle.records.specs.Calls.{reducedWords}
 use Rattle.records.specs.declared.answers.Refusal.{Refusal}
@@ -164,22 +163,27 @@ module _ (s words log : List ℕ) {x : Checked} (e : x ≡ reduceTests s (length
   pub run-log : (log′ : List ℕ) → log′ ≡ written (logOf (movesWithin bytes (roomFor log) (reducedWords s))) log → log′ ≡ reduceLog s words log
   run-log log′ told = rw (sym e ∙ h) told
 
-  -- 13
-  module _ {t : Bool} (ended : t ≡ stopped (runWithin bytes (roomFor log) (reducedWords s))) (more : not t ≡ true) where
-    late : reduceRules s (length words) (roomFor log) ≡ refusal 13 0
-    late = rules ∙ ap (λ (b : Bool). must b 13 0) (sym ended ∙ not-true t more)
+  judged : {t : Bool} {y : Checked} → t ≡ stopped (runWithin bytes (roomFor log) (reducedWords s)) → y ≡ must t 13 0
+      → reduceRules s (length words) (roomFor log) ≡ y
+  judged ended told = rules ∙ ap (λ (b : Bool). must b 13 0) (sym ended) ∙ sym told
 
-    pub late-answer : {y : Checked} {a : Reduction} → y ≡ refusal 13 0 → a ≡ refusedReduction y → a ≡ reduceAnswer s words log
-    late-answer told answer =
-        answer ∙ ap refusedReduction told ∙ sym (ap (λ (c : Checked). reductionOf c (reducedWords s) (roomFor log)) late)
+  -- 13
+  module _ {t : Bool} {y : Checked} {f : Refusal} (ended : t ≡ stopped (runWithin bytes (roomFor log) (reducedWords s))) (told : y ≡ must t 13 0)
+      (more : y ≡ Failed f) where
+    late : reduceRules s (length words) (roomFor log) ≡ Failed f
+    late = judged ended told ∙ more
+
+    pub late-answer : {a : Reduction} → a ≡ refusedReduction y → a ≡ reduceAnswer s words log
+    late-answer answer =
+        answer ∙ ap refusedReduction more ∙ sym (ap (λ (c : Checked). reductionOf c (reducedWords s) (roomFor log)) late)
 
     pub late-words : words ≡ reduceWords s words log
     late-words = rw late
 
   -- done
-  module _ {t : Bool} (ended : t ≡ stopped (runWithin bytes (roomFor log) (reducedWords s))) (done : not t ≡ false) where
+  module _ {t : Bool} {y : Checked} (ended : t ≡ stopped (runWithin bytes (roomFor log) (reducedWords s))) (told : y ≡ must t 13 0) (done : y ≡ Fine) where
     whole : reduceRules s (length words) (roomFor log) ≡ Fine
-    whole = rules ∙ ap (λ (b : Bool). must b 13 0) (sym ended ∙ not-false t done)
+    whole = judged ended told ∙ done
 
     pub done-answer : (m r g : ℕ) → m ≡ length (movesWithin bytes (roomFor log) (reducedWords s))
         → r ≡ rank (runWithin bytes (roomFor log) (reducedWords s)) → g ≡ rank (reducedWords s)
@@ -190,7 +194,7 @@ module _ (s words log : List ℕ) {x : Checked} (e : x ≡ reduceTests s (length
 
     pub done-words : (letters lengths out : List ℕ) → held (slots s) letters lengths ≡ runWithin bytes (roomFor log) (reducedWords s)
         → out ≡ written (bytesOf (held (length s / 64) letters lengths)) words → out ≡ reduceWords s words log
-    done-words letters lengths out told e = rw whole (e ∙ ap (λ (T : List (List ℕ)). written (bytesOf T) words) told)
+    done-words letters lengths out same e = rw whole (e ∙ ap (λ (T : List (List ℕ)). written (bytesOf T) words) same)
 
 -- what a system that passes tells of its length
 pub system-size-told : (s : List ℕ) {x : Checked} → x ≡ systemRules s → x ≡ Fine → length s ≤ 1024

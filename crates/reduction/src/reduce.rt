@@ -15,7 +15,7 @@ use crate::answers::Reduction;
 use crate::run::run;
 use records::answers::Checked;
 use records::answers::Verdict;
-use records::answers::refuse;
+use records::answers::check_that;
 use records::record::RECORD;
 use records::system::check_room;
 use records::system::check_system;
@@ -54,10 +54,10 @@ fn reduce_records(system: &[u8], words: &mut [u8], log: &mut [u8]) -> Reduction
     let mut letters = [0u8; 1024];
     let mut lengths = [0usize; 16];
     let outcome = reduce_held(system, &mut letters, &mut lengths, log);
-    let ended = outcome.ended;
-    if !ended {
-        return refused(refuse(13, 0));
-    }
+    let ended = check_that(outcome.ended, 13);
+    let Checked::Fine = ended else {
+        return refused(ended);
+    };
     store(&letters, &lengths, n, words);
     let rank = outcome.rank;
     let given = outcome.given;

@@ -1,7 +1,7 @@
 -- `multiply::multiply` meets its contract.
 use borrow.Author.Needs.{needs}
-use Rattle.multiply.proofs.Calls.{rules-failed, passed-size, passed-product, passed-slots, passed-room, rules-long, rules-fine, word-written}
 use Rattle.records.proofs.Calls.{answered, unchanged, changed}
+use Rattle.multiply.proofs.Calls.{rules-failed, passed-size, passed-product, passed-slots, passed-room, rules-told, passed-short, piece-short, word-written}
 use Rattle.multiply.proofs.multiply.Statement.{statement}
 use Rattle.multiply.proofs.multiply.Tie as tie
 
@@ -26,14 +26,20 @@ slice-aggregate-product-word c = search needs
 product-word-requires : tie.Need-product-word-requires
 product-word-requires c κs = search (passed-size, passed-product, passed-slots, needs)
 
-refuse-requires : tie.Need-refuse-requires
-refuse-requires c κs = search needs
+check-that-requires : tie.Need-check-that-requires
+check-that-requires c κs = search needs
+
+enum-told-3 : tie.Need-enum-told-3
+enum-told-3 c = search needs
+
+enum-told-4 : tie.Need-enum-told-4
+enum-told-4 c = search needs
 
 outcome-requires-2 : tie.Need-outcome-requires-2
 outcome-requires-2 c κs = search needs
 
 returns-2 : tie.Need-returns-2
-returns-2 c = search (answered, unchanged, rules-long, needs)
+returns-2 c = (search (answered, rules-told, needs), search (unchanged, rules-told, needs))
 
 sub-write-record : tie.Need-sub-write-record
 sub-write-record c = search needs
@@ -42,7 +48,7 @@ part-write-record-start : tie.Need-part-write-record-start
 part-write-record-start c = search needs
 
 part-write-record-end : tie.Need-part-write-record-end
-part-write-record-end c = search needs
+part-write-record-end c = search (passed-short, needs)
 
 sub-write-record-2 : tie.Need-sub-write-record-2
 sub-write-record-2 c = search needs
@@ -54,7 +60,7 @@ part-write-record-end-2 : tie.Need-part-write-record-end-2
 part-write-record-end-2 c = search (passed-room, needs)
 
 write-record-requires : tie.Need-write-record-requires
-write-record-requires c κs = search needs
+write-record-requires c κs = (search (piece-short, needs), search (passed-room, needs))
 
 outcome-requires-3 : tie.Need-outcome-requires-3
 outcome-requires-3 c κs = search needs
@@ -63,7 +69,7 @@ same-length : tie.Need-same-length
 same-length c = search needs
 
 returns-3 : tie.Need-returns-3
-returns-3 c = search (answered, changed, rules-fine, word-written, needs)
+returns-3 c = (search (answered, rules-told, needs), search (changed, rules-told, word-written, passed-short, needs))
 
 pub multiply-spec : {M : Type 1} → statement M
 multiply-spec =
@@ -76,7 +82,9 @@ multiply-spec =
     returns
     slice-aggregate-product-word
     product-word-requires
-    refuse-requires
+    check-that-requires
+    enum-told-3
+    enum-told-4
     outcome-requires-2
     returns-2
     sub-write-record

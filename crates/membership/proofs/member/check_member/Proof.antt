@@ -1,7 +1,7 @@
 -- `membership::check_member` meets its contract: each way out is the first test of memberTests that fails,
 -- and the last way out passes them all.
 use borrow.Author.Needs.{needs}
-use Rattle.membership.proofs.Calls.{tests-system, tests-target, tests-room, tests-product, tests-fine}
+use Rattle.membership.proofs.Calls.{tests-system, tests-target, tests-room, tests-product}
 use Rattle.membership.proofs.member.check_member.Statement.{statement}
 use Rattle.membership.proofs.member.check_member.Tie as tie
 
@@ -44,14 +44,11 @@ enum-told-6 c = search needs
 returns-3 : tie.Need-returns-3
 returns-3 c = search (tests-room, needs)
 
-refuse-requires : tie.Need-refuse-requires
-refuse-requires c κs = search needs
+check-that-requires : tie.Need-check-that-requires
+check-that-requires c κs = search needs
 
 returns-4 : tie.Need-returns-4
 returns-4 c = search (tests-product, needs)
-
-returns-5 : tie.Need-returns-5
-returns-5 c = search (tests-fine, needs)
 
 pub check-member-spec : {M : Type 1} → statement M
 check-member-spec =
@@ -70,6 +67,5 @@ check-member-spec =
     enum-told-5
     enum-told-6
     returns-3
-    refuse-requires
-    returns-4
-    returns-5)
+    check-that-requires
+    returns-4)

@@ -1,8 +1,8 @@
 -- `membership::decide` meets its contract, by the laws of Calls.antt: under refusal 13 the log alone is written,
 -- and otherwise the answer and the buffers are what `reduce_held` and `conclude` ensure.
 use borrow.Author.Needs.{needs}
-use Rattle.membership.proofs.Calls.{passed-size, passed-few, passed-target, passed-fits, passed-product, run-held-tidy, run-log, late-answer, late-words, late-product, done-answer, done-words, done-product}
 use Rattle.records.proofs.Calls.{short-zeros}
+use Rattle.membership.proofs.Calls.{passed-size, passed-few, passed-target, passed-fits, passed-product, run-held-tidy, run-log, late-answer, late-words, late-product, done-answer, done-words, done-product}
 use Rattle.membership.proofs.member.decide.Statement.{statement}
 use Rattle.membership.proofs.member.decide.Tie as tie
 
@@ -15,8 +15,14 @@ slice-aggregate-reduce-held-2 c = search needs
 reduce-held-requires : tie.Need-reduce-held-requires
 reduce-held-requires c κs = (search (passed-size, needs), (search needs, (search needs, search (short-zeros, needs))))
 
-refuse-requires : tie.Need-refuse-requires
-refuse-requires c κs = search needs
+check-that-requires : tie.Need-check-that-requires
+check-that-requires c κs = search needs
+
+enum-told : tie.Need-enum-told
+enum-told c = search needs
+
+enum-told-2 : tie.Need-enum-told-2
+enum-told-2 c = search needs
 
 refused-requires : tie.Need-refused-requires
 refused-requires c κs = search needs
@@ -60,7 +66,9 @@ decide-spec =
     slice-aggregate-reduce-held
     slice-aggregate-reduce-held-2
     reduce-held-requires
-    refuse-requires
+    check-that-requires
+    enum-told
+    enum-told-2
     refused-requires
     same-length
     returns

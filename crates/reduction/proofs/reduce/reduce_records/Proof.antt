@@ -29,8 +29,14 @@ slice-aggregate-reduce-held-2 c = search needs
 reduce-held-requires : tie.Need-reduce-held-requires
 reduce-held-requires c κs = (search (reduce-size, needs), (search needs, (search needs, search (short-zeros, needs))))
 
-refuse-requires : tie.Need-refuse-requires
-refuse-requires c κs = search needs
+check-that-requires : tie.Need-check-that-requires
+check-that-requires c κs = search needs
+
+enum-told-3 : tie.Need-enum-told-3
+enum-told-3 c = search needs
+
+enum-told-4 : tie.Need-enum-told-4
+enum-told-4 c = search needs
 
 refused-requires-2 : tie.Need-refused-requires-2
 refused-requires-2 c κs = search needs
@@ -72,7 +78,9 @@ reduce-records-spec =
     slice-aggregate-reduce-held
     slice-aggregate-reduce-held-2
     reduce-held-requires
-    refuse-requires
+    check-that-requires
+    enum-told-3
+    enum-told-4
     refused-requires-2
     same-length
     returns-2
