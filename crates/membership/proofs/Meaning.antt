@@ -90,7 +90,8 @@ module _ (p : List Factor) (short : length p ≤ 63) (named : Named (λ k. k < 2
 
   pub product-passes : targetRules (recordOf (map factorByte p)) ≡ Fine
   product-passes =
-      sym (target-fine (recordOf (map factorByte p)) product-length refl (record-passes (map factorByte p) product-short 0 (product-letters p named)))
+      let passes = record-passes (map factorByte p) product-short 0 (product-letters p named) in
+      sym (target-fine (recordOf (map factorByte p)) product-length refl passes) ∙ passes
 
 -- the two verdicts
 found-verdict : (o : Option (List Factor)) (p : List Factor) → o ≡ some p → verdictOf (isFound o) ≡ Member

@@ -38,7 +38,7 @@ module _ (r : List ℕ) where
   unfolding targetRules
   target-short bad e = rw (ne-eqb _ _ bad, e)
 
-  pub target-fine : {x : Checked} → length r ≡ 64 → x ≡ recordRules r 0 → x ≡ Fine → Fine ≡ targetRules r
+  pub target-fine : {x : Checked} → length r ≡ 64 → x ≡ recordRules r 0 → x ≡ Fine → x ≡ targetRules r
   unfolding targetRules
   target-fine sized e h = rw (eq-eqb _ _ sized, ← e, h)
 

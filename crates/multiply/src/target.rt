@@ -14,10 +14,11 @@ pub fn check_target(target: &[u8]) -> Checked
     if target.len() != 64 {
         return refuse(6, 0);
     }
-    match check_record(target, 0) {
-        Checked::Fine => Checked::Fine,
-        Checked::Failed(refusal) => refuse(6, refusal.place),
-    }
+    let checked = check_record(target, 0);
+    let Checked::Failed(refusal) = checked else {
+        return checked;
+    };
+    refuse(6, refusal.place)
 }
 
 // The slot that a letter of a product names.

@@ -13,17 +13,17 @@ returns c = search (target-short, needs)
 check-record-requires : tie.Need-check-record-requires
 check-record-requires c κs = search needs
 
+enum-known-checked : tie.Need-enum-known-checked
+enum-known-checked c = search needs
+
 enum-told : tie.Need-enum-told
 enum-told c = search needs
 
-enum-known-refusal : tie.Need-enum-known-refusal
-enum-known-refusal c = search needs
+returns-2 : tie.Need-returns-2
+returns-2 c = search (target-fine, needs)
 
 refuse-requires-2 : tie.Need-refuse-requires-2
 refuse-requires-2 c κs = search needs
-
-returns-2 : tie.Need-returns-2
-returns-2 c = search (target-fine, needs)
 
 returns-3 : tie.Need-returns-3
 returns-3 c = search (target-broken, needs)
@@ -35,8 +35,8 @@ check-target-spec =
     refuse-requires
     returns
     check-record-requires
+    enum-known-checked
     enum-told
-    enum-known-refusal
-    refuse-requires-2
     returns-2
+    refuse-requires-2
     returns-3)
