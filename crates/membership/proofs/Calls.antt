@@ -1,8 +1,8 @@
 -- The call member: its tests in their order, what they leave to the code after them, and for each way out the answer and the lent buffers.
 -- Turned down early, all buffers stay; turned down after the run, the log alone is written.
-use Prim.Native.Nat.{ℕ, _*_, _/_, _≤_, _<_}
+use Prim.Native.Nat.{ℕ, _*_, _/_, _≤_}
 use mathlib.Core.Path.{_≡_, refl, sym, ap, _∙_}
-use mathlib.Core.Bool.{Bool, true, false, not}
+use mathlib.Core.Bool.{Bool}
 use mathlib.Core.Option.{Option}
 use mathlib.Core.List.{List}
 use borrow.Author.Tests.{le-leb, leb-true}

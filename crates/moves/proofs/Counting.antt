@@ -1,9 +1,8 @@
 -- Counting what cancels: a loop compares one pair of letters after the other and stops at the first that does not cancel.
-use Prim.Native.Nat.{ℕ, suc, _+_, _-_, _≤_, _<_, min}
+use Prim.Native.Nat.{ℕ, _+_, _-_, _≤_, _<_, min}
 use mathlib.Core.Path.{_≡_, sym, _∙_}
 use mathlib.Core.List.{List}
 use native.Mathlib.Omega.{arith}
-use native.Mathlib.Numerals.{add-one-le}
 use lib.ListN.{length, getD}
 use Rattle.words.specs.Letters.{bytes, flipByte}
 use Rattle.words.specs.Words.{common, cancelled, inverse}

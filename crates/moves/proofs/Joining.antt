@@ -1,6 +1,6 @@
 -- Joining words at the beginning of a buffer: a word or its inverse is put after what stands there, less what cancels.
-use Prim.Native.Nat.{ℕ, zero, suc, _+_, _-_, _≤_, _<_, min}
-use mathlib.Core.Path.{_≡_, refl, sym, ap, ap₂, _∙_}
+use Prim.Native.Nat.{ℕ, suc, _+_, _-_, _≤_, _<_}
+use mathlib.Core.Path.{_≡_, sym, ap, ap₂, _∙_}
 use mathlib.Core.List.{List, [], _∷_, _++_, append-assoc, append-nil}
 use native.Mathlib.Omega.{arith}
 use native.Mathlib.Numerals.{add-one}
@@ -8,18 +8,11 @@ use lib.ListN.{length, take, drop, getD, set, length-take, length-drop}
 use lib.Seq.{take-all, take-append-add, take-append-seam, take-suc-set, drop-cons, drop-length, length-take-le, take-take}
 use borrow.Rule.Slice.PartMut.{putMid}
 use Rattle.words.specs.Letters.{bytes, flipByte}
-use Rattle.words.specs.Words.{reduce, inverse, common, cancelled, Irreducible}
+use Rattle.words.specs.Words.{reduce, inverse, common, cancelled}
 use Rattle.words.proofs.Letters.{byteLaws}
 use Rattle.words.proofs.Reduction.{irreducible-of-same}
 use Rattle.words.proofs.Inverse.{inverse-cons, inverse-nil, inverse-length, inverse-irreducible, drop-inverse}
-use Rattle.words.proofs.Cancellation.{
-  reduce-cancelled,
-  cancelled-le-left,
-  cancelled-le-right,
-  cancelled-inverse-right,
-  common-le-left,
-  common-le-right,
-}
+use Rattle.words.proofs.Cancellation.{reduce-cancelled, cancelled-le-left, cancelled-le-right, cancelled-inverse-right}
 use Rattle.records.specs.Records.{written}
 
 -- a word put after the first n letters

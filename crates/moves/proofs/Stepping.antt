@@ -1,19 +1,19 @@
 -- One move: the word that it puts into its slot, and the words after it.
-use Prim.Native.Nat.{ℕ, zero, suc, _+_, _-_, _*_, _≤_, _<_}
+use Prim.Native.Nat.{ℕ, _+_, _-_, _*_, _≤_, _<_}
 use mathlib.Core.Path.{_≡_, refl, sym, ap, ap₂, _∙_}
-use mathlib.Core.Bool.{Bool, true, false}
-use mathlib.Core.List.{List, [], _∷_, _++_}
+use mathlib.Core.Bool.{true, false}
+use mathlib.Core.List.{List, _++_}
 use native.Mathlib.Omega.{arith}
 use lib.ListN.{length, take, drop, getD, set, length-take}
 use lib.Dec.{leb}
-use lib.Seq.{take-at, take-length, length-take-le}
+use lib.Seq.{take-at, length-take-le}
 use borrow.Author.Tests.{le-leb, lt-leb}
 use borrow.Rule.Slice.PartMut.{putMid}
 use Rattle.words.specs.Letters.{bytes}
 use Rattle.words.specs.Words.{reduce, inverse}
 use Rattle.words.proofs.Letters.{byteLaws}
 use Rattle.words.proofs.Reduction.{reduce-left, reduce-twice}
-use Rattle.systems.specs.Moves.{Form, Move, formed, movedWord, made}
+use Rattle.systems.specs.Moves.{formed, movedWord, made}
 use Rattle.systems.specs.Rules.{formAt}
 use Rattle.records.specs.Records.{written}
 use Rattle.records.specs.Held.{held, Short}

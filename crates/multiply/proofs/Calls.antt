@@ -1,6 +1,6 @@
 -- The call multiply: its tests in their order, what they leave to the code after them, and the answer and the buffer from the word that
 -- comes out. Refusal 12 looks at the length of that word alone, not at what stood in the row on the way.
-use Prim.Native.Nat.{ℕ, _-_, _/_, _≤_, _<_}
+use Prim.Native.Nat.{ℕ, _-_, _/_, _≤_}
 use mathlib.Core.Path.{_≡_, sym, ap, _∙_}
 use mathlib.Core.List.{List, _++_}
 use native.Mathlib.Omega.{arith}

@@ -7,7 +7,7 @@ use native.Mathlib.Omega.{arith}
 use native.Mathlib.Nat.{add-zero}
 use borrow.Author.Tests.{eq-eqb, ne-eqb, le-leb, lt-leb, lt-ltb, le-ltb, eqb-true, leb-true}
 use lib.Dec.{eqb, leb}
-use lib.ListN.{length, take, drop, getD, replicate, List·getD-eq-default, length-replicate}
+use lib.ListN.{length, take, drop, getD, replicate, List·getD-eq-default}
 use lib.Seq.{getD-take, getD-drop}
 use Rattle.records.specs.Records.{slots, recordAt, bytesOf, written, isStop}
 use Rattle.records.specs.Refusals.{refusal, must, systemRules, wordRoom, eachRecord, _andThen_}

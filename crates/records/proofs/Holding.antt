@@ -1,13 +1,13 @@
 -- Words held in two arrays: what a store at one slot changes, and what it leaves.
 use Prim.Native.Nat.{ℕ, zero, suc, _+_, _-_, _*_, _≤_, _<_}
 use mathlib.Core.Path.{_≡_, refl, sym, ap, ap₂, _∙_}
-use mathlib.Core.List.{List, [], _∷_, _++_, append-assoc}
+use mathlib.Core.List.{List, [], _∷_, _++_}
 use native.Mathlib.Omega.{arith}
 use native.Mathlib.Numerals.{add-one}
-use native.Mathlib.Nat.{zero-add, suc-add, eq-or-lt-of-le, le-of-suc-le-suc}
+use native.Mathlib.Nat.{zero-add, suc-add}
 use native.Mathlib.Decide.{decLt, ℕ-discrete}
-use lib.ListN.{length, take, drop, getD, set, length-append, length-take, length-drop, length-set, List·getD-append, List·getD-eq-default}
-use lib.Seq.{take-at, drop-at, take-nil, take-take, drop-drop, length-take-le, getD-append-seam, getD-at, getD-set-same, getD-set-other, ext-getD, take-append-le}
+use lib.ListN.{length, take, drop, getD, set, length-append, length-drop, length-set, List·getD-append, List·getD-eq-default}
+use lib.Seq.{take-at, drop-at, take-nil, take-take, drop-drop, length-take-le, getD-at, getD-set-same, getD-set-other, ext-getD, take-append-le}
 use borrow.Rule.Slice.PartMut.{putMid, same-len-mid}
 use Rattle.records.specs.Held.{heldWord, held, Short}
 

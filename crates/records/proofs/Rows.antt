@@ -1,11 +1,11 @@
 -- Rows of bytes that a loop reads or writes one at a time.
-use mathlib.Core.Path.{_≡_, refl, sym, ap, _∙_}
+use mathlib.Core.Path.{_≡_, sym, ap, _∙_}
 use mathlib.Core.List.{List, [], _∷_, _++_, append-nil, append-assoc}
-use Prim.Native.Nat.{ℕ, zero, suc, _+_, _-_, _<_, _≤_}
+use Prim.Native.Nat.{ℕ, suc, _+_, _-_, _<_, _≤_}
 use native.Mathlib.Nat.{le-antisymm}
 use native.Mathlib.Numerals.{add-one}
 use native.Mathlib.Omega.{arith}
-use lib.ListN.{length, set, getD, take, drop, replicate, length-set, length-append, length-replicate, replicate-append-replicate}
+use lib.ListN.{length, set, getD, take, drop, length-set, length-append, length-replicate, replicate-append-replicate}
 use lib.Seq.{drop-cons, drop-length, drop-at, set-at, take-suc, take-length, length-take-le}
 use borrow.Author.Fill.{fill-more}
 use Rattle.records.specs.Records.{blanks, written, recordOf}

@@ -1,19 +1,20 @@
 -- The tests of document 01 on rows of bytes, as loops make them: the answer of the whole is the answer from the present place on.
 use mathlib.Core.Path.{_≡_, refl, sym, ap, _∙_}
-use mathlib.Core.Bool.{Bool, true, false, cond, not, true≢false}
+use mathlib.Core.Bool.{Bool, true, false, not, true≢false}
 use mathlib.Core.List.{List, [], _∷_, _++_, append-nil, append-assoc}
 use Prim.Native.Nat.{ℕ, suc, _+_, _-_, _%_, _<_, _≤_}
 use native.Mathlib.Nat.{add-assoc, add-zero, le-of-eq, le-antisymm}
 use native.Mathlib.Omega.{arith}
 use borrow.Author.Tests.{lt-leb, le-leb, lt-ltb, le-ltb, not-true, not-false, eq-eqb, ne-eqb}
 use borrow.Author.Count.{below-more}
-use lib.Dec.{leb, ltb}
+use lib.Dec.{ltb}
 use native.Mathlib.Decide.{decLt}
 use lib.ListN.{length, getD, take, drop, length-drop, drop-of-length-le}
 use lib.Seq.{take-all, take-suc, length-take-le, getD-take}
 use native.Mathlib.Numerals.{add-one}
 use Rattle.records.specs.Records.{isLetter, isLetterOrStop, isStop, notLetter, beforeStop, wordOf}
-use Rattle.records.specs.Refusals.{refusal, must, eachByte, byteRule, orderRule, recordRules, Plain, Blank, _andThen_}
+use Rattle.records.specs.Refusals.{refusal, eachByte, byteRule, orderRule, recordRules, _andThen_}
+use Rattle.records.specs.Plain.{Plain, Blank}
 use Rattle.records.specs.declared.answers.Refusal.{Refusal}
 use Rattle.records.specs.declared.answers.Checked.{Checked}
 use Rattle.records.specs.declared.answers.Checked.the-variants.{Fine, Failed}

@@ -1,18 +1,17 @@
 -- Systems of records, one record after the other: their tests, their words taken into arrays, and their bytes written out.
 use Prim.Native.Nat.{ℕ, zero, suc, _+_, _-_, _*_, _/_, _%_, _≤_, _<_}
 use mathlib.Core.Path.{_≡_, refl, sym, ap, ap₂, _∙_}
-use mathlib.Core.Logic.{⊎-elim}
 use mathlib.Core.List.{List, [], _∷_, _++_, map, append-assoc, append-nil}
 use native.Mathlib.Omega.{arith}
 use native.Mathlib.Numerals.{add-one}
-use native.Mathlib.Nat.{eq-or-lt-of-le, le-of-suc-le-suc, le-antisymm}
+use native.Mathlib.Nat.{le-antisymm}
 use borrow.Author.Tests.{eq-eqb, ne-eqb, le-leb, lt-leb}
-use lib.ListN.{length, take, drop, getD, set, length-append, length-take, length-drop, length-replicate}
-use lib.Seq.{take-suc, take-all, length-take-le, take-at, drop-at, drop-drop}
+use lib.ListN.{length, take, drop, getD, set, length-append, length-take, length-replicate}
+use lib.Seq.{take-at, drop-at, drop-drop}
 use Rattle.words.specs.Letters.{bytes}
 use Rattle.words.specs.Words.{reduce}
-use Rattle.records.specs.Records.{wordOf, beforeStop, recordAt, recordOf, blanks, wordsBelow, systemOf, slots, bytesOf, written}
-use Rattle.records.specs.Refusals.{refusal, recordRules, eachRecord, systemRules, wordRoom, must, _andThen_}
+use Rattle.records.specs.Records.{wordOf, beforeStop, recordAt, recordOf, blanks, wordsBelow, slots, bytesOf, written}
+use Rattle.records.specs.Refusals.{refusal, recordRules, eachRecord, systemRules, wordRoom}
 use Rattle.records.specs.Held.{heldWord, held, Short}
 use Rattle.records.specs.Calls.{reducedWords}
 use Rattle.records.specs.declared.answers.Refusal.{Refusal}
@@ -20,7 +19,7 @@ use Rattle.records.specs.declared.answers.Checked.{Checked}
 use Rattle.records.specs.declared.answers.Checked.the-variants.{Fine, Failed}
 use Rattle.words.proofs.Stack.{stack-more}
 use Rattle.records.proofs.Rules.{word-full}
-use Rattle.records.proofs.Holding.{held-next, held-length, held-word, back-below, back-above, back-part}
+use Rattle.records.proofs.Holding.{held-next, back-below, back-above, back-part}
 
 -- the 64 bytes of a slot, as a part that is handed on
 pub slot-part : (k : ℕ) (s : List ℕ) → take (k * 64 + 64 - k * 64) (drop (k * 64) s) ≡ recordAt s k

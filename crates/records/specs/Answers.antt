@@ -1,7 +1,6 @@
 -- What a call answers: "Every answer carries a verdict: done, member, not a member, or a refusal with its number and place."
 use Prim.Native.Nat.{ℕ}
 use mathlib.Core.List.{List}
-use Rattle.records.specs.declared.answers.Refusal.{Refusal}
 use Rattle.records.specs.declared.answers.Checked.{Checked}
 use Rattle.records.specs.declared.answers.Checked.the-variants.{Fine, Failed}
 use Rattle.records.specs.declared.answers.Verdict.{Verdict}

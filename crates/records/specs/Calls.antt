@@ -1,5 +1,5 @@
 -- The calls tidy and show: for every content of the lent buffers the answer, and each byte afterwards.
-use Prim.Native.Nat.{ℕ, _+_, _-_, _*_, _%_}
+use Prim.Native.Nat.{ℕ, _-_, _*_, _%_}
 use mathlib.Core.Bool.{Bool, cond, _&&_}
 use mathlib.Core.List.{List, [], map}
 use lib.ListN.{length, getD}

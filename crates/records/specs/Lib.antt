@@ -1,5 +1,6 @@
 pub mod Records
 pub mod Answers
 pub mod Refusals
+pub mod Plain
 pub mod Held
 pub mod Calls

@@ -1,6 +1,5 @@
 -- Why a call is turned down: the refusals of document 01 on systems, "tested in this order; the first refusal found ends the call at once".
 use Prim.Native.Nat.{ℕ, zero, suc, _+_, _*_, _%_}
-use mathlib.Core.Path.{_≡_}
 use mathlib.Core.Bool.{Bool, true, false, cond}
 use mathlib.Core.List.{List, [], _∷_}
 use lib.ListN.{length, getD, take}
@@ -41,14 +40,6 @@ byteRule r at = eachByte isLetterOrStop 4 r at
 abbrev pub orderRule : List ℕ → ℕ → Checked
 orderRule [] at = Fine
 orderRule (b ∷ r) at = cond (isStop b) (eachByte notLetter 5 r (at + 1)) (orderRule r (at + 1))
-
--- a row that breaks neither rule 4 nor rule 5, and one with full stops alone, wherever it stands: for the quick test of a record, no public
--- contract speaks of them
-abbrev pub Plain : List ℕ → Type 0
-Plain r = (at : ℕ) → (byteRule r at ≡ Fine) × (orderRule r at ≡ Fine)
-
-abbrev pub Blank : List ℕ → Type 0
-Blank r = (at : ℕ) → (byteRule r at ≡ Fine) × (eachByte notLetter 5 r at ≡ Fine) × (orderRule r at ≡ Fine)
 
 -- rules 3 to 5 on a record whose first byte stands at a place of its buffer, "in this order within a record"
 unfoldable pub recordRules : List ℕ → ℕ → Checked

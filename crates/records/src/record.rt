@@ -4,7 +4,8 @@ ghost use mathlib.Core.Bool.{true};
 ghost use Prim.Native.Nat.{_≤_};
 ghost use lib.ListN.{length, take};
 ghost use Rattle.records.specs.Records.{isLetter, isLetterOrStop, notLetter, wordOf, recordOf, written, blanks};
-ghost use Rattle.records.specs.Refusals.{eachByte, orderRule, recordRules, Plain, Blank};
+ghost use Rattle.records.specs.Refusals.{eachByte, orderRule, recordRules};
+ghost use Rattle.records.specs.Plain.{Plain, Blank};
 use crate::answers::Checked;
 use crate::answers::refuse;
 

@@ -1,9 +1,8 @@
 -- The calls reduce and test: their tests and answers, and the rank of words held in arrays.
-use Prim.Native.Nat.{ℕ, zero, suc, _+_, _-_, _*_, _/_, _≤_, _<_}
-use mathlib.Core.Path.{_≡_, refl, sym, ap, ap₂, _∙_}
+use Prim.Native.Nat.{ℕ, _+_, _*_, _/_, _≤_, _<_}
+use mathlib.Core.Path.{_≡_, sym, ap, _∙_}
 use mathlib.Core.Bool.{Bool, true, false}
-use mathlib.Core.Option.{Option, none, some}
-use mathlib.Core.List.{List, [], _∷_, _++_}
+use mathlib.Core.List.{List, []}
 use native.Mathlib.Omega.{arith}
 use native.Mathlib.Numerals.{add-one}
 use native.Mathlib.Nat.{le-antisymm}
@@ -13,15 +12,13 @@ use lib.Dec.{eqb}
 use Rattle.words.specs.Letters.{bytes}
 use Rattle.words.proofs.Letters.{byteLaws}
 use Rattle.systems.specs.Products.{Tidy}
-use Rattle.systems.specs.Moves.{Move}
 use Rattle.systems.specs.Rules.{next, movesWithin, runWithin}
 use Rattle.systems.specs.Rank.{rank}
 use Rattle.systems.proofs.Equivalence.{reduced-tidy}
 use Rattle.systems.proofs.Runs.{rank-blank, rank-word, rank-length}
 use Rattle.records.specs.Records.{slots, systemOf, bytesOf, written}
-use Rattle.records.specs.Answers.{onFine}
-use Rattle.records.specs.Refusals.{must, systemRules, wordRoom, _andThen_}
-use Rattle.records.specs.Held.{heldWord, held, Short}
+use Rattle.records.specs.Refusals.{must, systemRules, wordRoom}
+use Rattle.records.specs.Held.{heldWord, held}
 use Rattle.records.specs.Calls.{reducedWords}
 use Rattle.records.specs.declared.answers.Refusal.{Refusal}
 use Rattle.records.specs.declared.answers.Checked.{Checked}

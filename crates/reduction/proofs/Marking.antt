@@ -23,7 +23,6 @@ use Rattle.systems.proofs.Shortening.{try-found, other-same}
 use Rattle.systems.proofs.Undoing.{made-others}
 use Rattle.systems.proofs.Neither.{next-from}
 use Rattle.reduction.specs.Searches.{Marked, Forgotten, Added, Settled, Outside}
-use Rattle.reduction.specs.declared.marks.Slots.{Slots}
 
 -- a mark that is still there after one was taken away
 zero-set : (l : List ℕ) (q p : ℕ) → (getD (set l q 0) p 0 ≡ 0 → ⊥) → (p ≡ q → ⊥) × (getD l p 0 ≡ 0 → ⊥)

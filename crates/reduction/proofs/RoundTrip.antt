@@ -22,7 +22,8 @@ use Rattle.systems.proofs.Undoing.{set-holds}
 use Rattle.systems.proofs.Equivalence.{reduced-word}
 use Rattle.systems.proofs.Runs.{reduced-within}
 use Rattle.records.specs.Records.{isLetter, isLetterOrStop, isStop, blanks, recordOf, beforeStop, wordOf, recordAt, wordsBelow, slots, systemOf, bytesOf, written}
-use Rattle.records.specs.Refusals.{must, byteRule, orderRule, Plain, Blank, endRule, recordRules, eachRecord, systemRules, _andThen_}
+use Rattle.records.specs.Refusals.{must, byteRule, orderRule, endRule, recordRules, eachRecord, systemRules, _andThen_}
+use Rattle.records.specs.Plain.{Plain, Blank}
 use Rattle.records.specs.Calls.{reducedWords}
 use Rattle.records.specs.declared.answers.Checked.the-variants.{Fine}
 use Rattle.records.proofs.Rules.{letter-below, letter-above, letter-between, blank-stops, record-plain}

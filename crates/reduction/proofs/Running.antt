@@ -1,26 +1,25 @@
 -- The run of moves: the words, the log and the marks after each of them, and what the run comes to.
-use Prim.Native.Nat.{ℕ, zero, suc, _+_, _-_, _*_, _/_, _≤_, _<_}
+use Prim.Native.Nat.{ℕ, _+_, _-_, _*_, _≤_, _<_}
 use mathlib.Core.Path.{_≡_, refl, sym, ap, ap₂, _∙_}
 use mathlib.Core.Logic.{_⊎_, inl, inr}
 use mathlib.Core.Bool.{Bool, true, false}
-use mathlib.Core.Option.{Option, none, some}
-use mathlib.Core.List.{List, [], _∷_, _++_, append-assoc}
+use mathlib.Core.Option.{none, some}
+use mathlib.Core.List.{List, _++_, append-assoc}
 use native.Mathlib.Omega.{arith}
-use native.Mathlib.Decide.{decLt}
-use lib.ListN.{length, take, drop, getD, length-take, length-append}
+use lib.ListN.{length, take, drop, getD, length-take}
 use lib.Dec.{leb}
 use lib.Seq.{take-at, drop-at, drop-drop}
 use borrow.Author.Tests.{le-leb}
-use Rattle.words.specs.Letters.{bytes, flipByte}
+use Rattle.words.specs.Letters.{bytes}
 use Rattle.words.proofs.Letters.{byteLaws}
 use Rattle.systems.specs.Products.{word, Tidy}
 use Rattle.systems.specs.Moves.{Move, movedWord, made}
 use Rattle.systems.specs.Rules.{next, movesWithin, runWithin}
 use Rattle.systems.proofs.Undoing.{made-tidy}
-use Rattle.systems.proofs.Neither.{Valid, next-valid}
+use Rattle.systems.proofs.Neither.{next-valid}
 use Rattle.systems.proofs.Runs.{turn-run, turn-moves, turn-length, full-next, full-length, ended-run, ended-moves, ended-next}
 use Rattle.records.specs.Records.{written}
-use Rattle.records.specs.Held.{heldWord, held, Short}
+use Rattle.records.specs.Held.{held, Short}
 use Rattle.records.proofs.Holding.{held-word, held-length}
 use Rattle.moves.specs.Logs.{logRecord, logOf, moveOf}
 use Rattle.moves.specs.declared.log.Step.{Step}

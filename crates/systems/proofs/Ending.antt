@@ -19,7 +19,7 @@ use Rattle.words.proofs.Inverse.{inverse-append, inverse-twice, inverse-length,
 use Rattle.words.proofs.Cancellation.{common-comm, common-append, common-trans, common-le-right, cancelled-common, cancelled-self, reduce-cancelled}
 use Rattle.systems.specs.Products.{Factor, factors, word, value, Tidy}
 use Rattle.systems.specs.Moves.{Form, form₁, form₄, Move, made}
-use Rattle.systems.specs.Reduced.{cancels, size}
+use Rattle.systems.specs.Reduced.{size}
 use Rattle.systems.specs.Rules.{shortening, halfEnd, next, qualifies, runWithin}
 use Rattle.systems.proofs.Searching.{bool-cases, option-cases, and-true, and-left, and-right, true-not-false}
 use Rattle.systems.proofs.Factors.{factor-same, value-flip, value-length, value-irreducible, word-nonempty}

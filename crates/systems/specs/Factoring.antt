@@ -1,6 +1,6 @@
 -- Writing a word as a product over a reduced system (document 000, section 3): one factor after the other is found at the word's beginning
 -- and taken off. That this decides what is generated is proved (`Decides` of membership); a reader need not trust it.
-use Prim.Native.Nat.{ℕ, zero, suc, _*_, _/_, _%_}
+use Prim.Native.Nat.{ℕ, zero, suc, _*_, _%_}
 use mathlib.Core.Bool.{Bool, true, false, cond, not, _&&_, _||_}
 use mathlib.Core.Option.{Option, none, some}
 use mathlib.Core.List.{List, [], _∷_, _++_}
@@ -8,7 +8,7 @@ use lib.ListN.{length}
 use lib.Dec.{ltb, eqb}
 use Rattle.words.specs.Letters.{Letters}
 use Rattle.words.specs.Words.{reduce, inverse, common}
-use Rattle.systems.specs.Products.{Factor, factors, word, value}
+use Rattle.systems.specs.Products.{Factor, factors, value}
 use Rattle.systems.specs.Rules.{first, anyBelow, begins, ends, firstHalf, secondHalf}
 
 module _ {A : Type 0} (G : Letters A) where

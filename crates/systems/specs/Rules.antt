@@ -1,7 +1,7 @@
 -- The rules of document 01, 'The moves': which move is made next, and the moves of a whole run. They are read on freely reduced words.
 -- "Only slots that are not blank take part": a blank slot neither shortens a word nor is shortened, and a half has at least one letter.
 use Prim.Native.Nat.{ℕ, zero, suc, _/_, _%_}
-use mathlib.Core.Bool.{Bool, true, false, cond, not, _&&_, _||_}
+use mathlib.Core.Bool.{Bool, false, cond, not, _&&_, _||_}
 use mathlib.Core.Option.{Option, none, some}
 use mathlib.Core.List.{List, [], _∷_}
 use lib.ListN.{length, take, drop}

@@ -1,12 +1,12 @@
 -- Free reduction with a stack from the left: the stack holds the reduced word of the letters read, and one more letter is put after it
 -- or cancels its last.
-use Prim.Native.Nat.{ℕ, suc, _+_, _-_, _≤_, _<_}
-use mathlib.Core.Path.{_≡_, refl, sym, ap, _∙_}
+use Prim.Native.Nat.{ℕ, suc, _+_, _-_, _<_}
+use mathlib.Core.Path.{_≡_, sym, ap, _∙_}
 use mathlib.Core.List.{List, [], _∷_, _++_, append-assoc}
 use native.Mathlib.Omega.{arith}
 use native.Mathlib.Numerals.{add-one}
-use lib.ListN.{length, take, drop, getD, set}
-use lib.Seq.{take-suc, take-suc-set, take-length, take-all}
+use lib.ListN.{length, take, getD, set}
+use lib.Seq.{take-suc, take-suc-set}
 use Rattle.words.specs.Letters.{flipByte, bytes}
 use Rattle.words.specs.Words.{reduce}
 use Rattle.words.proofs.Letters.{byteLaws}
@@ -44,6 +44,3 @@ module _ (w s : List ℕ) (i n : ℕ) (here : take n s ≡ reduce bytes (take i 
   stack-more t m inside e =
       e ∙ ap (λ (l : List ℕ). reduce bytes (l ++ (getD w i 0 ∷ []))) here ∙ sym (reduce-left bytes byteLaws (take i w) (getD w i 0 ∷ []))
       ∙ ap (reduce bytes) (sym (ap (λ (k : ℕ). take k w) (add-one i) ∙ take-suc w i 0 inside))
-
-  pub stack-all : length w ≤ i → take n s ≡ reduce bytes w
-  stack-all l = here ∙ ap (reduce bytes) (take-all i w l)

@@ -1,7 +1,7 @@
 -- Words over any letters: free reduction, inverse and cancellation. A word is a list of letters, of any length.
 use Prim.Native.Nat.{ℕ, suc}
 use mathlib.Core.Path.{_≡_}
-use mathlib.Core.Bool.{Bool, false, cond}
+use mathlib.Core.Bool.{false, cond}
 use mathlib.Core.List.{List, [], _∷_, _++_, reverse, map}
 use Rattle.words.specs.Letters.{Letters}
 

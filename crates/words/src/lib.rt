@@ -31,18 +31,3 @@ pub fn push_last(stack: &mut [u8], n: usize, x: u8) -> usize
     stack[n] = x;
     n + 1
 }
-
-// Freely reduces a word into a buffer, which then begins with the result, and answers its length.
-pub fn reduce_into(word: &[u8], stack: &mut [u8]) -> usize
-    requires room { ⌜ length (now word) ≤ length (now stack) ⌝ }
-    ensures shorter { λ r. ⌜ r ≤ length (now (word .entry)) ⌝ }
-    ensures word { λ r. ⌜ take r (now (stack .exit)) ≡ reduce bytes (now (word .entry)) ⌝ }
-{
-    let mut n = 0;
-    let mut i = 0;
-    while i < word.len() {
-        n = push_last(stack, n, word[i]);
-        i += 1;
-    }
-    n
-}
