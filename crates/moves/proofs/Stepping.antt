@@ -6,7 +6,7 @@ use mathlib.Core.List.{List, _++_}
 use native.Mathlib.Omega.{arith}
 use lib.ListN.{length, take, drop, getD, set, length-take}
 use lib.Dec.{leb}
-use lib.Seq.{take-at, length-take-le}
+use lib.Seq.{length-take-le, take-append-le, take-take}
 use borrow.Author.Tests.{le-leb, lt-leb}
 use borrow.Rule.Slice.PartMut.{putMid}
 use Rattle.words.specs.Letters.{bytes}
@@ -74,23 +74,18 @@ pub move-fits : (w : List ℕ) (r : ℕ) → r ≡ length w → r ≤ 63 → tru
 move-fits w r e h = rw (← e) (sym (le-leb r 63 h))
 
 -- a word put into its slot
-pub slot-put : (letters lengths y w : List ℕ) (n k : ℕ) → n ≤ 16 → k < n → length w ≤ 63 → length letters ≡ 1024 → length lengths ≡ 16
-    → Short lengths → length y ≡ length (take (k * 64 + 64 - k * 64) (drop (k * 64) letters))
-    → y ≡ written w (take (k * 64 + 64 - k * 64) (drop (k * 64) letters))
-    → held n (putMid (k * 64) (k * 64 + 64 - k * 64) letters y) (set lengths k (length w)) ≡ set (held n letters lengths) k w
-slot-put letters lengths y w n k few inside fits wide counted short kept copied =
-    held-put k (length w) letters _ lengths short (omega arith) (back-below (k * 64) (k * 64 + 64) letters y refl (omega arith) kept)
+pub slot-put : (letters lengths y w : List ℕ) (n k size : ℕ) → n ≤ 16 → k < n → size ≤ 63 → 64 ≤ length w → length letters ≡ 1024
+    → length lengths ≡ 16 → Short lengths → length y ≡ length (take (k * 64 + 64 - k * 64) (drop (k * 64) letters))
+    → y ≡ written (take (64 - 0) w) (take (k * 64 + 64 - k * 64) (drop (k * 64) letters))
+    → held n (putMid (k * 64) (k * 64 + 64 - k * 64) letters y) (set lengths k size) ≡ set (held n letters lengths) k (take size w)
+slot-put letters lengths y w n k size few inside fits long wide counted short kept copied =
+    held-put k size letters _ lengths short (omega arith) (back-below (k * 64) (k * 64 + 64) letters y refl (omega arith) kept)
     (back-above (k * 64) (k * 64 + 64) letters y refl (omega arith) kept) n inside
     ∙ ap (set (held n letters lengths) k)
-    (back-part (k * 64) (k * 64 + 64) letters y refl (omega arith) kept (length w) (omega arith)
-    ∙ ap (take (length w)) copied ∙ take-at w _ (length w) refl)
+    (back-part (k * 64) (k * 64 + 64) letters y refl (omega arith) kept size (omega arith) ∙ ap (take size) copied
+    ∙ take-append-le size (take 64 w) _ (omega (arith, length-take 64 w)) ∙ take-take size 64 w (omega arith))
 
 -- the words after a move
-pub move-made : (S S′ : List (List ℕ)) (t : List ℕ) (size : ℕ) (m : Step) → S′ ≡ set S (m .changed) (take (size - 0) t)
+pub move-made : (S S′ : List (List ℕ)) (t : List ℕ) (size : ℕ) (m : Step) → S′ ≡ set S (m .changed) (take size t)
     → take size t ≡ movedWord bytes S (moveOf m) → S′ ≡ made bytes S (moveOf m)
-move-made S S′ t size m put told =
-    let same : size - 0 ≡ size = omega arith in
-    put ∙ ap (set S (m .changed)) (ap (λ (k : ℕ). take k t) same ∙ told)
-
-pub front-short : (t : List ℕ) (size : ℕ) → size ≤ 63 → length (take (size - 0) t) ≤ 63
-front-short t size h = rw (length-take (size - 0) t) (omega arith)
+move-made S S′ t size m put told = put ∙ ap (set S (m .changed)) told

@@ -63,19 +63,26 @@ fn step_word(letters: &[u8], lengths: &[usize], n: usize, m: Step, out: &mut [u8
     form_word(form, &letters[from..to], &letters[at..stop], out)
 }
 
-// Puts a word into a slot.
-pub fn put_word(letters: &mut [u8], lengths: &mut [usize], n: usize, k: usize, word: &[u8])
-    requires { ⌜ (n ≤ 16) × (k < n) × (length (now word) ≤ 63) ⌝ }
+// Puts the word at the beginning of a buffer into a slot. All the slot's bytes are copied, so that the loop has one length.
+fn put_word(
+    letters: &mut [u8],
+    lengths: &mut [usize],
+    n: usize,
+    k: usize,
+    buffer: &[u8],
+    size: usize,
+)
+    requires { ⌜ (n ≤ 16) × (k < n) × (size ≤ 63) × (64 ≤ length (now buffer)) ⌝ }
     requires { ⌜ length (now letters) ≡ 1024 ⌝ }
     requires { ⌜ length (now lengths) ≡ 16 ⌝ }
     requires { ⌜ Short (now lengths) ⌝ }
-    ensures words { λ _. ⌜ held n (now (letters .exit)) (now (lengths .exit)) ≡ set (held n (now (letters .entry)) (now (lengths .entry))) k (now (word .entry)) ⌝ }
+    ensures words { λ _. ⌜ held n (now (letters .exit)) (now (lengths .exit)) ≡ set (held n (now (letters .entry)) (now (lengths .entry))) k (take size (now (buffer .entry))) ⌝ }
     ensures short { λ _. ⌜ Short (now (lengths .exit)) ⌝ }
 {
     let at = k * RECORD;
     let end = at + RECORD;
-    records::record::copy(word, &mut letters[at..end]);
-    lengths[k] = word.len();
+    records::record::copy(&buffer[0..RECORD], &mut letters[at..end]);
+    lengths[k] = size;
 }
 
 // Makes a move, and answers whether its word has at most 63 letters; where it has more, nothing is made.
@@ -95,6 +102,6 @@ pub fn make_move(letters: &mut [u8], lengths: &mut [usize], n: usize, m: Step) -
     if size > 63 {
         return false;
     }
-    put_word(letters, lengths, n, k, &out[0..size]);
+    put_word(letters, lengths, n, k, &out, size);
     true
 }

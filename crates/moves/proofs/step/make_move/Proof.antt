@@ -1,7 +1,7 @@
 -- `moves::step::make_move` meets its contract.
 use borrow.Author.Needs.{needs}
-use Rattle.moves.proofs.Stepping.{move-long, move-fits, move-made, front-short}
 use Rattle.records.proofs.Rules.{never}
+use Rattle.moves.proofs.Stepping.{move-long, move-fits, move-made}
 use Rattle.moves.proofs.step.make_move.Statement.{statement}
 use Rattle.moves.proofs.step.make_move.Tie as tie
 
@@ -20,18 +20,12 @@ same-length-2 c = search needs
 returns : tie.Need-returns
 returns c = (search (move-long, needs), (never, search needs))
 
-sub-put-word : tie.Need-sub-put-word
-sub-put-word c = search needs
-
-part-put-word-start : tie.Need-part-put-word-start
-part-put-word-start c = search needs
-
-part-put-word-end : tie.Need-part-put-word-end
-part-put-word-end c = search needs
+slice-aggregate-put-word : tie.Need-slice-aggregate-put-word
+slice-aggregate-put-word c = search needs
 
 put-word-requires : tie.Need-put-word-requires
 put-word-requires c κs =
-    ((search needs, search needs, search (front-short, needs)), (search needs, (search needs, search needs)))
+    ((search needs, search needs, search needs, search needs), (search needs, (search needs, search needs)))
 
 same-length-3 : tie.Need-same-length-3
 same-length-3 c = search needs
@@ -51,9 +45,7 @@ make-move-spec =
     same-length
     same-length-2
     returns
-    sub-put-word
-    part-put-word-start
-    part-put-word-end
+    slice-aggregate-put-word
     put-word-requires
     same-length-3
     same-length-4

@@ -1,7 +1,7 @@
 -- `moves::step::put_word` meets its contract.
 use borrow.Author.Needs.{needs}
-use Rattle.moves.proofs.Stepping.{slot-put}
 use Rattle.records.proofs.Holding.{short-put}
+use Rattle.moves.proofs.Stepping.{slot-put}
 use Rattle.moves.proofs.step.put_word.Statement.{statement}
 use Rattle.moves.proofs.step.put_word.Tie as tie
 
@@ -19,6 +19,15 @@ part-copy-start c = search needs
 
 part-copy-end : tie.Need-part-copy-end
 part-copy-end c = search needs
+
+sub-copy-2 : tie.Need-sub-copy-2
+sub-copy-2 c = search needs
+
+part-copy-start-2 : tie.Need-part-copy-start-2
+part-copy-start-2 c = search needs
+
+part-copy-end-2 : tie.Need-part-copy-end-2
+part-copy-end-2 c = search needs
 
 copy-requires : tie.Need-copy-requires
 copy-requires c κs = search needs
@@ -47,6 +56,9 @@ put-word-spec =
     sub-copy
     part-copy-start
     part-copy-end
+    sub-copy-2
+    part-copy-start-2
+    part-copy-end-2
     copy-requires
     mul-lengths
     slice-write-lengths
