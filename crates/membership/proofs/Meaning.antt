@@ -13,7 +13,7 @@ use Rattle.words.specs.Letters.{bytes}
 use Rattle.words.proofs.Letters.{byteLaws, flipByte-moves}
 use Rattle.words.proofs.Reduction.{length-reduce}
 use Rattle.systems.specs.Products.{Factor, Generated, FreelyReducedOver, multiplied}
-use Rattle.systems.specs.Rules.{next}
+use Rattle.systems.specs.Rules.{next, movesWithin, runWithin}
 use Rattle.systems.proofs.Searching.{option-cases}
 use Rattle.systems.proofs.ProductLaws.{Named, words-named, word-slot}
 use Rattle.systems.proofs.Ending.{every-run-ends}
@@ -114,11 +114,15 @@ answered-fine (Failed f) S n w (inl e) = let z : _≡_ {A = ℕ} 0 1 = cc in abs
 answered-fine (Failed f) S n w (inr e) = let z : _≡_ {A = ℕ} 0 1 = cc in absurd (omega arith)
 
 -- what reduce means depends on the rank and the verdict on independence alone
-pub reduces-same : (s W L : List ℕ) (a b : Reduction) → b .rank ≡ a .rank → b .independent ≡ a .independent → Reduces s W L a → Reduces s W L b
-reduces-same s W L a b ranks same r =
+pub reduces-same : (s W L : List ℕ) (a b : Reduction) → b .moves ≡ a .moves → b .rank ≡ a .rank → b .independent ≡ a .independent
+    → Reduces s W L a → Reduces s W L b
+reduces-same s W L a b counts ranks same r =
     record {
       tidy = r .tidy;
       reduced = r .reduced;
+      moves = r .moves ∙ ap (λ (n : ℕ). movesWithin bytes n (reducedWords s)) (sym counts);
+      noMoreMoves = ap (λ (n : ℕ). next bytes (runWithin bytes n (reducedWords s))) counts ∙ r .noMoreMoves;
+      count = counts ∙ r .count;
       equivalent = r .equivalent;
       rank = ranks ∙ r .rank;
       independent = (λ e. r .independent .0 (sym same ∙ e), λ i. same ∙ r .independent .1 i);
@@ -237,12 +241,13 @@ module _ (s t words log product : List ℕ) (room : EnoughRoom s t words log pro
         (reductionOf Fine (reducedWords s) (roomFor log))
     given-reduces =
         reduce-means s words log (reductionOf Fine (reducedWords s) (roomFor log)) words′ log′
-        (sym (ap (λ (c : Checked). reductionOf c (reducedWords s) (roomFor log)) room-reduce)) same-words same-log refl
+        (sym (ap (λ (c : Checked). reductionOf c (reducedWords s) (roomFor log)) room-reduce)) same-words same-log .reduces refl
 
     given-same : Reduces s (take (slots s * 64) words′) (take (a .moves * moveSize) log′) a
     given-same =
         reduces-same s (take (slots s * 64) words′) (take (a .moves * moveSize) log′) (reductionOf Fine (reducedWords s) (roomFor log)) a
-        (ap (λ (r : Reduction). r .rank) answer) (ap (λ (r : Reduction). r .independent) answer) (rw moves-are given-reduces)
+        (ap (λ (r : Reduction). r .moves) answer) (ap (λ (r : Reduction). r .rank) answer) (ap (λ (r : Reduction). r .independent) answer)
+        (rw moves-are given-reduces)
 
     abbrev Means : Type 0
     Means = Decides s t (take (slots s * 64) words′) (take (a .moves * moveSize) log′) (take 64 product′) a

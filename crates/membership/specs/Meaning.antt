@@ -2,21 +2,18 @@
 use Prim.Native.Nat.{ℕ, _*_, _≤_}
 use mathlib.Core.Path.{_≡_}
 use mathlib.Core.Logic.{_↔_, _⊎_}
-use mathlib.Core.Option.{none}
 use mathlib.Core.List.{List}
 use lib.ListN.{length, take}
 use Rattle.words.specs.Letters.{bytes}
 use Rattle.words.specs.Words.{reduce}
 use Rattle.systems.specs.Products.{Factor, Generated, FreelyReducedOver, multiplied}
-use Rattle.systems.specs.Rules.{next, runWithin}
 use Rattle.records.specs.Records.{slots, wordOf, systemOf}
 use Rattle.records.specs.Refusals.{systemRules}
-use Rattle.records.specs.Calls.{reducedWords}
 use Rattle.records.specs.declared.answers.Checked.the-variants.{Fine}
 use Rattle.records.specs.declared.answers.Verdict.the-variants.{Member, NotMember}
 use Rattle.moves.specs.Logs.{moveSize}
 use Rattle.multiply.specs.Targets.{productOf, targetRules}
-use Rattle.reduction.specs.Meaning.{Reduces}
+use Rattle.reduction.specs.Meaning.{EnoughMoves, Reduces}
 use Rattle.reduction.specs.declared.answers.Reduction.{Reduction}
 
 -- "in well-formed records with enough room lent for all results": 64 bytes of word buffer for each record, 64 bytes of product buffer,
@@ -28,7 +25,7 @@ pub record EnoughRoom (given target words log product : List ℕ) : Type 0 where
   pub wordsFit : slots given * 64 ≤ length words
   pub productFits : 64 ≤ length product
   pub enoughMoves : ℕ
-  pub noMoreMoves : next bytes (runWithin bytes enoughMoves (reducedWords given)) ≡ none
+  pub noMoreMoves : EnoughMoves given enoughMoves
   pub logFits : enoughMoves * moveSize ≤ length log
 
 -- the third demand, of the given system and target, the reduced system W, the log L and the product P that were written, and the answer
@@ -54,10 +51,10 @@ pub record Decides (given target W L P : List ℕ) (answer : Reduction) : Type 0
 abbrev pub Answered : Reduction → Type 0
 Answered answer = (answer .verdict ≡ Member) ⊎ (answer .verdict ≡ NotMember)
 
--- the moves that the rules make are finitely many, so that there can be enough room; wherever there is, the target is answered; and every
--- such answer decides: W, L and P are what member wrote
+-- the moves that the rules make are finitely many; wherever there is room for them and for all else, the target is answered; and every such
+-- answer decides: W, L and P are what member wrote
 pub record MemberMeans (given target words log product : List ℕ) (answer : Reduction) (words′ log′ product′ : List ℕ) : Type 0 where
-  pub finite : (enoughMoves : ℕ) × (next bytes (runWithin bytes enoughMoves (reducedWords given)) ≡ none)
+  pub finite : (enough : ℕ) × EnoughMoves given enough
   pub answered : EnoughRoom given target words log product → Answered answer
   pub decides : Answered answer
       → Decides given target (take (slots given * 64) words′) (take (answer .moves * moveSize) log′) (take 64 product′) answer

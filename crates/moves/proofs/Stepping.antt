@@ -89,3 +89,6 @@ slot-put letters lengths y w n k size few inside fits long wide counted short ke
 pub move-made : (S S′ : List (List ℕ)) (t : List ℕ) (size : ℕ) (m : Step) → S′ ≡ set S (m .changed) (take size t)
     → take size t ≡ movedWord bytes S (moveOf m) → S′ ≡ made bytes S (moveOf m)
 move-made S S′ t size m put told = put ∙ ap (set S (m .changed)) told
+
+pub front-short : (t : List ℕ) (size : ℕ) → size ≤ 63 → length (take (size - 0) t) ≤ 63
+front-short t size h = rw (length-take (size - 0) t) (omega arith)

@@ -7,21 +7,22 @@ use mathlib.Core.Bool.{true, false}
 use mathlib.Core.Option.{Option, none, some}
 use mathlib.Core.List.{List, map}
 use native.Mathlib.Omega.{arith}
-use borrow.Author.Tests.{eqb-true, eq-eqb}
+use borrow.Author.Tests.{eqb-true, eq-eqb, le-leb}
 use lib.ListN.{length, take, length-map}
 use Rattle.words.specs.Letters.{bytes}
 use Rattle.words.specs.Words.{reduce}
 use Rattle.words.proofs.Letters.{byteLaws, flipByte-moves}
-use Rattle.systems.specs.Moves.{Move, undoneAll}
+use Rattle.systems.specs.Moves.{Move, madeAll, undoneAll}
 use Rattle.systems.specs.Products.{Tidy, Equivalent, IndependentWords}
 use Rattle.systems.specs.Reduced.{Reduced}
 use Rattle.systems.specs.Rules.{next, movesWithin, runWithin}
 use Rattle.systems.specs.Rank.{rank}
 use Rattle.systems.proofs.Equivalence.{tidy-reduced}
-use Rattle.systems.proofs.Neither.{next-none, run-length, run-tidy, run-valid}
+use Rattle.systems.proofs.Neither.{next-none, moves-again, run-length, run-ended, run-tidy, run-valid}
+use Rattle.systems.proofs.Ending.{every-run-ends}
 use Rattle.systems.proofs.Runs.{reduced, equivalent, independence-words, backward, forward-within, forward-way-within, backward-way-within}
 use Rattle.records.specs.Records.{slots, systemOf, bytesOf, written}
-use Rattle.records.specs.Refusals.{systemRules}
+use Rattle.records.specs.Refusals.{systemRules, wordRoom}
 use Rattle.records.specs.Answers.{onFine}
 use Rattle.records.specs.Calls.{reducedWords}
 use Rattle.records.specs.declared.answers.Checked.{Checked}
@@ -36,7 +37,7 @@ use Rattle.replay.proofs.Accepting.{AllShort, between-inside, forward-accepts, 
 use Rattle.reduction.specs.declared.answers.Reduction.{Reduction}
 use Rattle.reduction.specs.declared.answers.Tested.{Tested}
 use Rattle.reduction.specs.Reduction.{isNone, stopped, roomFor, reduceTests, reduceRules, reductionOf, reduceAnswer, reduceWords, reduceLog, sameRank, testedOf, testAnswer}
-use Rattle.reduction.specs.Meaning.{Reduces, ReduceMeans, TestMeans}
+use Rattle.reduction.specs.Meaning.{EnoughMoves, Reduces, ReduceMeans, TestMeans}
 use Rattle.reduction.proofs.RoundTrip.{LetterWords, letters-madeAll, reduced-letters, reduced-short, system-length, bytesOf-length, bytesOf-slots, system-back, system-passes, written-take}
 
 -- neither rule applies exactly where the search for a move finds none
@@ -178,6 +179,9 @@ module _ (s : List ℕ) (n : ℕ) (system : systemRules s ≡ Fine) where
       record {
         tidy = rw left-back (left-tidy s n);
         reduced = rw left-back (left-reduced s n ended);
+        moves = logOf-moves (runMoves s n) ∙ sym (moves-again bytes n (reducedWords s));
+        noMoreMoves = ap (λ (ms : List Move). next bytes (madeAll bytes (reducedWords s) ms)) (moves-again bytes n (reducedWords s)) ∙ ended;
+        count = ap length (sym (logOf-moves (runMoves s n)));
         equivalent = rw left-back (left-equivalent s n);
         rank = ap rank (sym left-back);
         independent = left-independent s n ended;
@@ -205,10 +209,21 @@ module _ (s : List ℕ) (room n : ℕ) (passed : reduceRules s room n ≡ Fine) 
   unfolding reduceRules
   rules-ended = stopped-none (runWords s n) (must-fine _ 13 0 (fine-next (reduceTests s room) _ passed))
 
--- the answer of reduce and what it wrote into the two buffers mean what the owner demands
-pub reduce-means : (s words log : List ℕ) (a : Reduction) (words′ log′ : List ℕ) → a ≡ reduceAnswer s words log
-    → words′ ≡ reduceWords s words log → log′ ≡ reduceLog s words log → ReduceMeans s a words′ log′
-reduce-means s words log a words′ log′ answered wrote logged done =
+-- a system whose words and moves have room passes
+room-passes : (s words log : List ℕ) (enough : ℕ) → systemRules s ≡ Fine → slots s * 64 ≤ length words → EnoughMoves s enough
+    → enough * moveSize ≤ length log → reduceRules s (length words) (roomFor log) ≡ Fine
+unfolding reduceRules reduceTests wordRoom
+room-passes s words log enough system fits ended room =
+    let few : enough ≤ roomFor log = omega arith in
+    let stop : stopped (runWords s (roomFor log)) ≡ true =
+    none-stopped (runWords s (roomFor log)) (ap (next bytes) (run-ended bytes enough (roomFor log) (reducedWords s) ended few) ∙ ended) in
+    rw (system, le-leb (slots s * 64) (length words) fits, stop)
+
+-- what reduce wrote when it is done
+done-reduces : (s words log : List ℕ) (a : Reduction) (words′ log′ : List ℕ) → a ≡ reduceAnswer s words log
+    → words′ ≡ reduceWords s words log → log′ ≡ reduceLog s words log
+    → a .verdict ≡ Done → Reduces s (take (slots s * 64) words′) (take (a .moves * moveSize) log′) a
+done-reduces s words log a words′ log′ answered wrote logged done =
     let n : ℕ = roomFor log in
     let passed : reduceRules s (length words) n ≡ Fine = reduction-fine (reduceRules s (length words) n) (reducedWords s) n (rw answered at done) in
     let system : systemRules s ≡ Fine = rules-system s (length words) n passed in
@@ -222,3 +237,16 @@ reduce-means s words log a words′ log′ answered wrote logged done =
     let log-is : take (length (runMoves s n) * moveSize) log′ ≡ logOf (runMoves s n) =
     ap (take (length (runMoves s n) * moveSize)) kept ∙ written-take (logOf (runMoves s n)) log _ (logOf-length (runMoves s n)) in
     rw (told, words-are, log-is) (run-reduces s n system (rules-ended s (length words) n passed))
+
+-- the answer of reduce and what it wrote into the two buffers mean what the owner demands
+pub reduce-means : (s words log : List ℕ) (a : Reduction) (words′ log′ : List ℕ) → a ≡ reduceAnswer s words log
+    → words′ ≡ reduceWords s words log → log′ ≡ reduceLog s words log → ReduceMeans s words log a words′ log′
+reduce-means s words log a words′ log′ answered wrote logged =
+    record {
+      finite = every-run-ends bytes byteLaws flipByte-moves (reducedWords s) (words-tidy s);
+      done =
+          λ system fits enough ended room.
+          ap (λ (r : Reduction). r .verdict) (answered
+          ∙ ap (λ (c : Checked). reductionOf c (reducedWords s) (roomFor log)) (room-passes s words log enough system fits ended room));
+      reduces = done-reduces s words log a words′ log′ answered wrote logged;
+    }

@@ -3,13 +3,16 @@ use Prim.Native.Nat.{ℕ, _*_, _≤_}
 use mathlib.Core.Path.{_≡_}
 use mathlib.Core.Logic.{_↔_}
 use mathlib.Core.Bool.{true, false}
+use mathlib.Core.Option.{none}
 use mathlib.Core.List.{List}
-use lib.ListN.{take}
+use lib.ListN.{length, take}
 use Rattle.words.specs.Letters.{bytes}
 use Rattle.systems.specs.Products.{Tidy, Equivalent, IndependentWords}
 use Rattle.systems.specs.Reduced.{Reduced}
+use Rattle.systems.specs.Rules.{next, movesWithin, runWithin}
 use Rattle.systems.specs.Rank.{rank}
 use Rattle.records.specs.Records.{slots, systemOf}
+use Rattle.records.specs.Refusals.{systemRules}
 use Rattle.records.specs.Calls.{reducedWords}
 use Rattle.records.specs.declared.answers.Checked.the-variants.{Fine}
 use Rattle.records.specs.declared.answers.Verdict.the-variants.{Done}
@@ -18,11 +21,20 @@ use Rattle.replay.specs.Replay.{replayRules, replayed}
 use Rattle.reduction.specs.declared.answers.Reduction.{Reduction}
 use Rattle.reduction.specs.declared.answers.Tested.{Tested}
 
+-- neither rule applies after so many moves on the freely reduced words of a system
+abbrev pub EnoughMoves : List ℕ → ℕ → Type 0
+EnoughMoves given n = next bytes (runWithin bytes n (reducedWords given)) ≡ none
+
 -- reduce: the given system, the reduced system W and the log L that were written, and the answer
 pub record Reduces (given W L : List ℕ) (answer : Reduction) : Type 0 where
   -- "The result is a reduced system in Nielsen's sense (1921)", of freely reduced words
   pub tidy : Tidy bytes (systemOf W)
   pub reduced : Reduced bytes (systemOf W)
+  -- "The moves are those of document 01, in that order": the log holds those that the rules make, and after them neither rule applies
+  pub moves : movesIn L ≡ movesWithin bytes (answer .moves) (reducedWords given)
+  pub noMoreMoves : EnoughMoves given (answer .moves)
+  -- "it is the length of that list"
+  pub count : answer .moves ≡ length (movesIn L)
   -- "equivalent to the given one"
   pub equivalent : Equivalent bytes (systemOf given) (systemOf W)
   -- "The rank is the number of its words that aren't empty"
@@ -36,10 +48,13 @@ pub record Reduces (given W L : List ℕ) (answer : Reduction) : Type 0 where
   pub backward : (room : ℕ) → slots given * 64 ≤ room → replayRules W L true room ≡ Fine
   pub backwardGives : replayed true (reducedWords W) (movesIn L) ≡ reducedWords given
 
--- whenever reduce is done: W is what it wrote into the words buffer, L what it wrote into the log
-abbrev pub ReduceMeans : List ℕ → Reduction → List ℕ → List ℕ → Type 0
-ReduceMeans given answer words log =
-    answer .verdict ≡ Done → Reduces given (take (slots given * 64) words) (take (answer .moves * moveSize) log) answer
+-- the moves that the rules make are finitely many; wherever a well-formed system's words and moves have room, reduce is done; and
+-- whenever it is, W is what it wrote into the words buffer, and L what it wrote into the log
+pub record ReduceMeans (given words log : List ℕ) (answer : Reduction) (words′ log′ : List ℕ) : Type 0 where
+  pub finite : (enough : ℕ) × EnoughMoves given enough
+  pub done : systemRules given ≡ Fine → slots given * 64 ≤ length words
+      → (enough : ℕ) → EnoughMoves given enough → enough * moveSize ≤ length log → answer .verdict ≡ Done
+  pub reduces : answer .verdict ≡ Done → Reduces given (take (slots given * 64) words′) (take (answer .moves * moveSize) log′) answer
 
 -- test: yes exactly when the freely reduced words are reduced
 abbrev pub TestMeans : List ℕ → Tested → Type 0

@@ -35,7 +35,7 @@ pub fn reduce(system: &[u8], words: &mut [u8], log: &mut [u8]) -> Reduction
     ensures answer { λ r. ⌜ r ≡ reduceAnswer (now (system .entry)) (now (words .entry)) (now (log .entry)) ⌝ }
     ensures words { λ _. ⌜ now (words .exit) ≡ reduceWords (now (system .entry)) (now (words .entry)) (now (log .entry)) ⌝ }
     ensures log { λ _. ⌜ now (log .exit) ≡ reduceLog (now (system .entry)) (now (words .entry)) (now (log .entry)) ⌝ }
-    ensures means { λ r. ⌜ ReduceMeans (now (system .entry)) r (now (words .exit)) (now (log .exit)) ⌝ }
+    ensures means { λ r. ⌜ ReduceMeans (now (system .entry)) (now (words .entry)) (now (log .entry)) r (now (words .exit)) (now (log .exit)) ⌝ }
 {
     reduce_records(system, words, log)
 }

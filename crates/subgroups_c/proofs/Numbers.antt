@@ -1,10 +1,16 @@
--- The numbers of an answer, where the answer is known by an equation.
-use mathlib.Core.Path.{_≡_, ap, _∙_}
-use mathlib.Core.List.{List, [], _∷_}
+-- The numbers of an answer, where the answer is known by an equation, and what the answers mean.
 use Prim.Native.Nat.{ℕ}
+use mathlib.Core.Path.{_≡_, refl, ap, _∙_}
+use mathlib.Core.List.{List, [], _∷_}
 use Rattle.records.specs.declared.answers.Answer.{Answer}
 use Rattle.reduction.specs.declared.answers.Tested.{Tested}
 use Rattle.reduction.specs.declared.answers.Reduction.{Reduction}
+use Rattle.reduction.specs.Reduction.{testAnswer, reduceAnswer, reduceWords, reduceLog}
+use Rattle.reduction.specs.Meaning.{TestMeans, ReduceMeans}
+use Rattle.reduction.proofs.Meaning.{test-means, reduce-means}
+use Rattle.membership.specs.Membership.{memberAnswer, memberWords, memberLog, memberProduct}
+use Rattle.membership.specs.Meaning.{MemberMeans}
+use Rattle.membership.proofs.Meaning.{member-means}
 use Rattle.subgroups_c.specs.Numbers.{plainNumbers, testNumbers, reductionNumbers}
 
 pub plain-of : {r : List ℕ} {a : Answer} (b : Answer) → r ≡ plainNumbers a → a ≡ b → r ≡ plainNumbers b
@@ -20,3 +26,17 @@ reduction-of b e f = e ∙ ap reductionNumbers f
 pub seven : {a b c d e f g a′ b′ c′ d′ e′ f′ g′ : ℕ} → a ≡ a′ → b ≡ b′ → c ≡ c′ → d ≡ d′ → e ≡ e′ → f ≡ f′ → g ≡ g′
     → _≡_ {A = List ℕ} (a ∷ b ∷ c ∷ d ∷ e ∷ f ∷ g ∷ []) (a′ ∷ b′ ∷ c′ ∷ d′ ∷ e′ ∷ f′ ∷ g′ ∷ [])
 seven p q r s t u v = λ i. p i ∷ q i ∷ r i ∷ s i ∷ t i ∷ u i ∷ v i ∷ []
+
+-- what the answers mean
+pub test-meaning : (s : List ℕ) → TestMeans s (testAnswer s)
+test-meaning s = test-means s (testAnswer s) refl
+
+pub reduce-meaning : (s words log words′ log′ : List ℕ) → words′ ≡ reduceWords s words log → log′ ≡ reduceLog s words log
+    → ReduceMeans s words log (reduceAnswer s words log) words′ log′
+reduce-meaning s words log words′ log′ wrote logged = reduce-means s words log (reduceAnswer s words log) words′ log′ refl wrote logged
+
+pub member-meaning : (s t words log product words′ log′ product′ : List ℕ) → words′ ≡ memberWords s t words log product
+    → log′ ≡ memberLog s t words log product → product′ ≡ memberProduct s t words log product
+    → MemberMeans s t words log product (memberAnswer s t words log product) words′ log′ product′
+member-meaning s t words log product words′ log′ product′ wrote logged gave =
+    member-means s t words log product (memberAnswer s t words log product) words′ log′ product′ refl wrote logged gave

@@ -5,7 +5,9 @@ ghost use Rattle.records.specs.Calls.{tidyAnswer, tidyBuffer};
 ghost use Rattle.replay.specs.Replay.{replayAnswer, replayBuffer};
 ghost use Rattle.multiply.specs.Multiply.{multiplyAnswer, multiplyBuffer};
 ghost use Rattle.membership.specs.Membership.{memberAnswer, memberWords, memberLog, memberProduct};
+ghost use Rattle.membership.specs.Meaning.{MemberMeans};
 ghost use Rattle.reduction.specs.Reduction.{testAnswer, reduceAnswer, reduceWords, reduceLog};
+ghost use Rattle.reduction.specs.Meaning.{TestMeans, ReduceMeans};
 ghost use Rattle.subgroups_c.specs.Numbers.{isBackward, oneOrZero, plainNumbers, testNumbers, reductionNumbers};
 use records::answers::Answer;
 use records::answers::Verdict;
@@ -147,7 +149,8 @@ pub extern "C" fn subgroups_multiply(
 // Test: whether the freely reduced words of a system are reduced.
 #[no_mangle]
 pub extern "C" fn subgroups_test(system: &[u8], numbers: &mut [u64; 7])
-    ensures { λ _. ⌜ now (numbers .exit) ≡ testNumbers (testAnswer (now (system .entry))) ⌝ }
+    ensures numbers { λ _. ⌜ now (numbers .exit) ≡ testNumbers (testAnswer (now (system .entry))) ⌝ }
+    ensures means { λ _. ⌜ TestMeans (now (system .entry)) (testAnswer (now (system .entry))) ⌝ }
 {
     let answer = reduction::test::test(system);
     *numbers = test_numbers(answer);
@@ -164,6 +167,7 @@ pub extern "C" fn subgroups_reduce(
     ensures words { λ _. ⌜ now (words .exit) ≡ reduceWords (now (system .entry)) (now (words .entry)) (now (log .entry)) ⌝ }
     ensures log { λ _. ⌜ now (log .exit) ≡ reduceLog (now (system .entry)) (now (words .entry)) (now (log .entry)) ⌝ }
     ensures numbers { λ _. ⌜ now (numbers .exit) ≡ reductionNumbers (reduceAnswer (now (system .entry)) (now (words .entry)) (now (log .entry))) ⌝ }
+    ensures means { λ _. ⌜ ReduceMeans (now (system .entry)) (now (words .entry)) (now (log .entry)) (reduceAnswer (now (system .entry)) (now (words .entry)) (now (log .entry))) (now (words .exit)) (now (log .exit)) ⌝ }
 {
     let answer = reduction::reduce::reduce(system, words, log);
     *numbers = reduction_numbers(answer);
@@ -183,6 +187,7 @@ pub extern "C" fn subgroups_member(
     ensures log { λ _. ⌜ now (log .exit) ≡ memberLog (now (system .entry)) (now (target .entry)) (now (words .entry)) (now (log .entry)) (now (product .entry)) ⌝ }
     ensures product { λ _. ⌜ now (product .exit) ≡ memberProduct (now (system .entry)) (now (target .entry)) (now (words .entry)) (now (log .entry)) (now (product .entry)) ⌝ }
     ensures numbers { λ _. ⌜ now (numbers .exit) ≡ reductionNumbers (memberAnswer (now (system .entry)) (now (target .entry)) (now (words .entry)) (now (log .entry)) (now (product .entry))) ⌝ }
+    ensures means { λ _. ⌜ MemberMeans (now (system .entry)) (now (target .entry)) (now (words .entry)) (now (log .entry)) (now (product .entry)) (memberAnswer (now (system .entry)) (now (target .entry)) (now (words .entry)) (now (log .entry)) (now (product .entry))) (now (words .exit)) (now (log .exit)) (now (product .exit)) ⌝ }
 {
     let answer = membership::member::member(system, target, words, log, product);
     *numbers = reduction_numbers(answer);

@@ -90,6 +90,15 @@ module _ {A : Type 0} (G : Letters A) where
     | inr r ↦ rw (moves-more n S r.0 r.1) (omega (arith, moves-few n (made G S r.0)))
   ]
 
+  -- a run with room for just its own moves is the same
+  pub moves-again : (n : ℕ) (S : List (List A)) → movesWithin G (length (movesWithin G n S)) S ≡ movesWithin G n S
+  moves-again zero S = refl
+  moves-again (suc n) S = elim (option-cases (next G S)) [
+    | inl e ↦ rw (moves-stop (suc n) S e)
+    | inr r ↦
+        rw (moves-more n S r.0 r.1, moves-more (length (movesWithin G n (made G S r.0))) S r.0 r.1) (ap (_∷_ r.0) (moves-again n (made G S r.0)))
+  ]
+
   pub run-length : (n : ℕ) (S : List (List A)) → length (runWithin G n S) ≡ length S
   run-length n S = madeAll-length G S (movesWithin G n S)
 

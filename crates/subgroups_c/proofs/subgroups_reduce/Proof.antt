@@ -1,6 +1,6 @@
 -- `subgroups_c::subgroups_reduce` meets its contract.
 use borrow.Author.Needs.{needs}
-use Rattle.subgroups_c.proofs.Numbers.{reduction-of}
+use Rattle.subgroups_c.proofs.Numbers.{reduction-of, reduce-meaning}
 use Rattle.subgroups_c.proofs.subgroups_reduce.Statement.{statement}
 use Rattle.subgroups_c.proofs.subgroups_reduce.Tie as tie
 
@@ -17,7 +17,7 @@ same-length-2 : tie.Need-same-length-2
 same-length-2 c = search needs
 
 returns : tie.Need-returns
-returns c = (search needs, (search needs, search (reduction-of, needs)))
+returns c = (search needs, (search needs, (search (reduction-of, needs), search (reduce-meaning, needs))))
 
 pub subgroups-reduce-spec : {M : Type 1} → statement M
 subgroups-reduce-spec =
