@@ -3,7 +3,11 @@
  * Every call takes byte buffers of any length and content and either does its work or refuses. A buffer that is
  * written (words, log, product, word, answer) must not overlap any other; buffers that are only read may. The
  * library keeps nothing between calls and allocates nothing. A pointer may be any non-null pointer where its
- * length is 0. */
+ * length is 0.
+ *
+ * A refusal changes nothing but the answer, except that under 13 the log holds, as whole records, the first moves that
+ * fit. Bytes after the last one written stay as they were. words needs 64 bytes for each record of the system, product
+ * and word 64, log 4 for each move. */
 #ifndef SUBGROUPS_H
 #define SUBGROUPS_H
 
@@ -43,7 +47,8 @@ void subgroups_multiply(const uint8_t *system, size_t system_len, const uint8_t 
                         uint8_t *word, size_t word_len, subgroups_answer *answer);
 
 /* Writes all that reduce writes, gives its numbers with the verdict member or not a member, and for a member writes
- * the product over the reduced words. Refusals 1 to 5, 6, 10, 11 and 13. */
+ * the product over the reduced words; for any other target product is left alone. Refusals 1 to 5, 6, 10, 11 and 13;
+ * under 13 the log holds the first moves that fit. */
 void subgroups_member(const uint8_t *system, size_t system_len, const uint8_t *target, size_t target_len,
                       uint8_t *words, size_t words_len, uint8_t *log, size_t log_len,
                       uint8_t *product, size_t product_len, subgroups_answer *answer);

@@ -134,7 +134,7 @@ fn take_off(
     left
 }
 
-// What a word is after a slot's word or its inverse, freely reduced into a buffer, and its length: the forms of a move, counted from 0.
+// Takes a slot's word, or its inverse, off the beginning of a word: the freely reduced rest goes into a buffer, and its length is answered.
 fn divide(inverted: bool, element: &[u8], word: &[u8], out: &mut [u8]) -> usize
     requires { ⌜ (length (now element) ≤ 63) × (length (now word) ≤ 63) × (128 ≤ length (now out)) ⌝ }
     requires { ⌜ reduce bytes (now element) ≡ now element ⌝ }
@@ -275,7 +275,7 @@ fn is_half_start(
     ends_elsewhere(inverted, n, letters, lengths, k)
 }
 
-// Whether an element other than the word of slot k or its inverse ends with the second half of that.
+// Whether some element other than x ends with the second half of x, which is the word of slot k, or its inverse where `inverted` says so.
 fn ends_elsewhere(inverted: bool, n: usize, letters: &[u8], lengths: &[usize], k: usize) -> bool
     requires { ⌜ (n ≤ 16) × (k < n) ⌝ }
     requires { ⌜ length (now letters) ≡ 1024 ⌝ }
@@ -297,7 +297,7 @@ fn ends_elsewhere(inverted: bool, n: usize, letters: &[u8], lengths: &[usize], k
     false
 }
 
-// Whether an element of slot j, other than the word of slot k or its inverse, ends with the second half of that.
+// The same of the two elements of slot j alone.
 fn ends_apart(k: usize, inverted: bool, whole: &[u8], j: usize, other: &[u8]) -> bool
     requires { ⌜ length (now whole) % 2 ≡ 0 ⌝ }
     ensures { λ r. ⌜ r ≡ endsApart k inverted (now (whole .entry)) j (now (other .entry)) ⌝ }

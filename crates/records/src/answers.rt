@@ -36,7 +36,7 @@ pub fn refuse(number: u8, place: usize) -> Checked
     Checked::Failed(Refusal { number, place })
 }
 
-// Nothing where something holds, and elsewhere the refusal with a number, at place 0.
+// No refusal where a condition holds, and otherwise the one with this number, at place 0.
 pub fn check_that(holds: bool, number: u8) -> Checked
     ensures { λ r. ⌜ r ≡ must holds number 0 ⌝ }
 {
@@ -47,7 +47,7 @@ pub fn check_that(holds: bool, number: u8) -> Checked
     }
 }
 
-// The answer of such a call, whose tests found what is given.
+// The answer of a call that gives nothing but its verdict, from what its tests found.
 pub fn outcome(checked: Checked) -> Answer
     ensures { λ r. ⌜ r ≡ outcomeOf checked ⌝ }
 {

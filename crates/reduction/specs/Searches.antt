@@ -47,8 +47,8 @@ FoundBelow n (FoundMove m) = (m .changed < n) × (m .other < n) × (m .form < 4)
 abbrev pub Marked : ℕ → List (List ℕ) → List ℕ → Type 0
 Marked n S marks = (k i : ℕ) → k < n → i < n → (getD marks (k * 16 + i) 0 ≡ 0 → ⊥) → tryOther bytes S k i ≡ none
 
--- a table after the marks of all pairs with slot c were taken away, but that of c's with itself: what is still marked was so, and has
--- nothing to do with c
+-- a table after the marks of all pairs with slot c were taken away, but that of c's with itself: what is marked now is a pair of a slot
+-- with itself, or was marked before and has nothing to do with c
 abbrev pub Forgotten : ℕ → List ℕ → List ℕ → Type 0
 Forgotten c marks marks′ =
     (k i : ℕ) → k < 16 → i < 16 → (getD marks′ (k * 16 + i) 0 ≡ 0 → ⊥)

@@ -1,4 +1,5 @@
-// The pairs of slots that need not be tried again: those that are marked in a table, and those before the slot changed last.
+// The pairs of slots that need not be tried again: those that are marked in a table, and those of a slot before the one changed last with
+// any slot but that one.
 ghost use Prim.Native.Nat.{_+_, _-_, _*_, _≤_, _<_};
 ghost use mathlib.Core.Path.{_≡_};
 ghost use mathlib.Core.Logic.{_⊎_};
@@ -6,13 +7,13 @@ ghost use mathlib.Core.Bool.{true, false};
 ghost use lib.ListN.{length, getD};
 ghost use Rattle.reduction.specs.Searches.{Forgotten, Added, Outside};
 
-// A row of slots.
+// The slots from one up to, but without, another.
 pub struct Slots {
     pub from: usize,
     pub to: usize,
 }
 
-// The slots that slot k has to be tried with: the slot changed last where k comes before it, and all elsewhere.
+// The slots that slot k has to be tried with: the slot changed last where k comes before it, and otherwise all.
 pub fn others_of(n: usize, last: usize, k: usize) -> Slots
     requires { ⌜ (k < n) × (n ≤ 16) × (last ≤ n - 1) ⌝ }
     ensures within { λ r. ⌜ r .to ≤ n ⌝ }

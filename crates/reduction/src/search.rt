@@ -39,7 +39,7 @@ pub fn word_at<'a>(letters: &'a [u8], lengths: &[usize], k: usize) -> &'a [u8]
     &letters[at..end]
 }
 
-// How many letters cancel in one of the four forms, counted from 0.
+// How many letters cancel between the two words of a form; the forms are numbered from 0.
 pub fn seam_of(form: usize, other: &[u8], changed: &[u8]) -> usize
     requires { ⌜ form < 4 ⌝ }
     ensures { λ r. ⌜ r ≡ seam bytes (formAt form) (now (other .entry)) (now (changed .entry)) ⌝ }
@@ -66,6 +66,7 @@ fn greatest(a: usize, b: usize) -> usize
 
 // The first shortening move, in the order of changed slot, other slot and form: more than half of the other word cancels. Pairs that were
 // tried in vain are passed over; those that are tried in vain now are marked, both ways round where at most half of either word cancels.
+// `last` is the slot changed last, or 0: of the slots before it only their pairs with it are tried.
 pub fn find_shortening(
     letters: &[u8],
     lengths: &[usize],
@@ -243,7 +244,8 @@ fn shortest_slot(letters: &[u8], lengths: &[usize], n: usize) -> usize
     best
 }
 
-// Takes the second half of slot h's word off the first word that ends with it, or begins with its inverse.
+// The half-end move by slot h: the first other slot whose word ends with the second half of h's word (form 4), or else begins with its
+// inverse (form 1).
 fn half_end_by(letters: &[u8], lengths: &[usize], n: usize, h: usize) -> Found
     requires { ⌜ (n ≤ 16) × (h < n) ⌝ }
     requires { ⌜ length (now letters) ≡ 1024 ⌝ }

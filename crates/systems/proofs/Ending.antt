@@ -1,6 +1,6 @@
 -- "Then repeat until neither rule applies" (document 01, 'The moves'): every run comes to its end. A shortening makes the letters fewer in
--- all. A half-end move takes the inverse of a second half off the beginning of one element and puts the first half there; it makes no word
--- qualify that is not longer than its own, and each such move leaves fewer elements with that beginning.
+-- all. A half-end move by slot h puts the first half of h's word in place of the inverse of its second half, at the beginning of an element
+-- of another slot. After it no word as short as h's or shorter qualifies that did not before, and fewer elements begin with that inverse.
 use Prim.Native.Nat.{ℕ, zero, suc, _+_, _-_, _*_, _/_, _%_, _≤_, _<_}
 use mathlib.Core.Path.{_≡_, refl, sym, ap, ap₂, _∙_}
 use mathlib.Core.Logic.{_⊎_, inl, inr}
@@ -192,7 +192,7 @@ module _ {A : Type 0} (G : Letters A) (L : LetterLaws G) where
         )
 
   module _ (S T : List (List A)) (h k : ℕ) (y : Factor) (t : Taken G S T h k y) (apart : k ≡ h → ⊥) where
-    -- an element that another begins like after the move, as far as half of h's word: another began like it before
+    -- if after the move an element of another slot agrees with z in its first j letters, j at most half of h's length, then one did before
     kept-beginning : (z : Factor) (j : ℕ) → (z .slot ≡ h → ⊥) → j ≤ length (word G S h) / 2 → Beginning G T (z .slot) j (value G T z)
         → Beginning G S (z .slot) j (value G S z)
     kept-beginning z j away le b = elim (ℕ-discrete (z .slot) k) [
@@ -454,8 +454,8 @@ module _ {A : Type 0} (G : Letters A) (L : LetterLaws G) where
             ]
           ]
 
-      -- one half-end move, where every other run with no more letters is known to end that has fewer qualifying words of the length of h's,
-      -- or as many and fewer beginnings like the inverse of its second half
+      -- a run ends that makes this half-end move next, if every run does with no more letters and fewer qualifying words of that length, or no
+      -- more of them and fewer beginnings
       half-step : AtLeast (length (word G S (m .other))) S
           → ((T : List (List A)) → Tidy G T → letters G T ≤ letters G S → AtLeast (length (word G S (m .other))) T
           → qualifying G (length (word G S (m .other))) T < qualifying G (length (word G S (m .other))) S → Ends T)
@@ -497,9 +497,9 @@ module _ {A : Type 0} (G : Letters A) (L : LetterLaws G) where
         ))
 
     -- a run ends if it does after a shortening, and after a half-end move
-    turn : (S : List (List A)) → Tidy G S → ((T : List (List A)) → Tidy G T → letters G T < letters G S → Ends T)
+    ends-next : (S : List (List A)) → Tidy G S → ((T : List (List A)) → Tidy G T → letters G T < letters G S → Ends T)
         → ((m : Move) → shortening G S ≡ none → halfEnd G S ≡ some m → Ends S) → Ends S
-    turn S tidy shorter half-end = elim (option-cases (next G S)) [
+    ends-next S tidy shorter half-end = elim (option-cases (next G S)) [
       | inl e ↦ (0, e)
       | inr r ↦ elim (next-from G S r.0 r.1) [
         | inl s ↦ ends-more S r.0 r.1 (shorter (made G S r.0) (made-tidy G L S r.0 tidy) (fewer-letters S r.0 tidy s))
@@ -514,9 +514,9 @@ module _ {A : Type 0} (G : Letters A) (L : LetterLaws G) where
           -- by the number of beginnings
           by-beginnings : (bound : ℕ) (S : List (List A)) → Tidy G S → letters G S ≤ most → AtLeast size S → qualifying G size S ≤ count
               → ((h : ℕ) → Shortest G S (length S) h → beginnings G S h < bound) → Ends S
-          by-beginnings zero S tidy few least words begun = turn S tidy (λ T t l. shorter T t (omega arith))
+          by-beginnings zero S tidy few least words begun = ends-next S tidy (λ T t l. shorter T t (omega arith))
               (λ m n e. absurd (omega (arith, begun (m .other) (found S m tidy n e .shortest))))
-          by-beginnings (suc bound) S tidy few least words begun = turn S tidy (λ T t l. shorter T t (omega arith)) (at-half-end (by-beginnings bound))
+          by-beginnings (suc bound) S tidy few least words begun = ends-next S tidy (λ T t l. shorter T t (omega arith)) (at-half-end (by-beginnings bound))
             where
               at-half-end : ((T : List (List A)) → Tidy G T → letters G T ≤ most → AtLeast size T → qualifying G size T ≤ count
                   → ((h : ℕ) → Shortest G T (length T) h → beginnings G T h < bound) → Ends T)
@@ -543,7 +543,7 @@ module _ {A : Type 0} (G : Letters A) (L : LetterLaws G) where
 
       -- by that length
       by-length : (left size : ℕ) (S : List (List A)) → Tidy G S → letters G S ≤ most → most < size + left → AtLeast size S → Ends S
-      by-length zero size S tidy few enough least = turn S tidy (λ T t l. shorter T t (omega arith))
+      by-length zero size S tidy few enough least = ends-next S tidy (λ T t l. shorter T t (omega arith))
           (λ m n e. absurd (omega (arith, enough, few, least (m .other) (chosen S m tidy n e), chosen-within S m tidy n e)))
       by-length (suc left) size S tidy few enough least =
           by-words size (λ T t b a. by-length left (suc size) T t b (omega arith) a) (suc (qualifying G size S)) S tidy few least (omega arith)
