@@ -10,17 +10,18 @@ use native.Mathlib.Omega.{arith}
 use borrow.Author.Tests.{lt-ltb, le-ltb, le-leb}
 use lib.ListN.{length, take, length-map}
 use Rattle.words.specs.Letters.{bytes}
+use Rattle.words.specs.Words.{reduce}
 use Rattle.words.proofs.Letters.{byteLaws, flipByte-moves}
 use Rattle.words.proofs.Reduction.{length-reduce}
 use Rattle.systems.specs.Products.{Factor, Generated, FreelyReducedOver, multiplied}
 use Rattle.systems.specs.Rules.{next, movesWithin, runWithin}
 use Rattle.systems.proofs.Searching.{option-cases}
-use Rattle.systems.proofs.ProductLaws.{Named, words-named, word-slot}
+use Rattle.systems.proofs.ProductLaws.{Named, words-named, over-named, overWords-over, word-slot}
 use Rattle.systems.proofs.Ending.{every-run-ends}
 use Rattle.systems.proofs.Runs.{ended-next, no-member, member, member-freely, member-length, member-multiplied, member-only}
 use Rattle.records.specs.Records.{isLetter, slots, wordOf, recordOf, systemOf, bytesOf, written}
 use Rattle.records.specs.Answers.{onFine}
-use Rattle.records.specs.Refusals.{must, systemRules, wordRoom}
+use Rattle.records.specs.Refusals.{must, eachByte, systemRules, wordRoom}
 use Rattle.records.specs.Calls.{reducedWords}
 use Rattle.records.specs.declared.answers.Checked.{Checked}
 use Rattle.records.specs.declared.answers.Checked.the-variants.{Fine, Failed}
@@ -30,12 +31,13 @@ use Rattle.records.proofs.Rules.{letter-between}
 use Rattle.records.proofs.Systems.{record-length}
 use Rattle.records.proofs.Calls.{fine-first, fine-next, must-fine, system-few}
 use Rattle.moves.specs.Logs.{moveSize, logOf}
-use Rattle.multiply.specs.Targets.{factorOf, productOf, targetRules}
+use Rattle.multiply.specs.Targets.{factorOf, productOf, targetRules, hasSlot, slotRule}
+use Rattle.multiply.specs.Multiply.{productWord, multiplyTests, multiplyRules}
 use Rattle.multiply.proofs.Targets.{target-fine}
 use Rattle.reduction.specs.Reduction.{roomFor, reduceTests, reduceRules, reductionOf, reduceWords, reduceLog}
 use Rattle.reduction.specs.Meaning.{Reduces}
 use Rattle.reduction.specs.declared.answers.Reduction.{Reduction}
-use Rattle.reduction.proofs.RoundTrip.{AllLetters, word-short, word-back, record-passes, written-take}
+use Rattle.reduction.proofs.RoundTrip.{AllLetters, system-length, word-short, word-back, record-passes, written-take}
 use Rattle.reduction.proofs.Meaning.{words-tidy, runMoves, runWords, stopped-none, none-stopped, left-length, left-bytes, left-back, reduce-means}
 use Rattle.membership.specs.Membership.{
   targetWord,
@@ -93,6 +95,21 @@ module _ (p : List Factor) (short : length p ≤ 63) (named : Named (λ k. k < 2
       let passes = record-passes (map factorByte p) product-short 0 (product-letters p named) in
       sym (target-fine (recordOf (map factorByte p)) product-length refl passes) ∙ passes
 
+-- multiply takes a product over the slots of a system that multiplies out to what a record's word freely reduces to
+slots-pass : (n : ℕ) (l : List ℕ) (at : ℕ) → Named (λ k. k < n) (map factorOf l) → eachByte (hasSlot n) 9 l at ≡ Fine
+slots-pass n [] at h = refl
+slots-pass n (b ∷ l) at h = rw (lt-ltb (factorOf b .slot) n (h .0)) (slots-pass n l (at + 1) h.1)
+
+product-accepted : (W P t : List ℕ) → systemRules W ≡ Fine → targetRules P ≡ Fine → FreelyReducedOver bytes (systemOf W) (productOf P)
+    → multiplied bytes (systemOf W) (productOf P) ≡ reduce bytes (wordOf t) → (room : ℕ) → 64 ≤ room → multiplyRules W P room ≡ Fine
+unfolding multiplyRules multiplyTests slotRule wordRoom productWord
+product-accepted W P t system target over word room enough =
+    let named : Named (λ k. k < slots W) (productOf P) =
+    rw (system-length W) at (over-named bytes byteLaws (systemOf W) (productOf P) (overWords-over bytes byteLaws (systemOf W) (productOf P) (over .0))) in
+    let short : length (multiplied bytes (systemOf W) (productOf P)) ≤ 63 =
+    omega (arith, ap length word, length-reduce bytes byteLaws (wordOf t), word-short t) in
+    rw (system, target, slots-pass (slots W) (wordOf P) 0 named, le-leb 64 room enough, le-leb _ 63 short)
+
 -- the two verdicts
 found-verdict : (o : Option (List Factor)) (p : List Factor) → o ≡ some p → verdictOf (isFound o) ≡ Member
 found-verdict o p e = rw e
@@ -118,6 +135,7 @@ pub reduces-same : (s W L : List ℕ) (a b : Reduction) → b .moves ≡ a .move
     → Reduces s W L a → Reduces s W L b
 reduces-same s W L a b counts ranks same r =
     record {
+      wellFormed = r .wellFormed;
       tidy = r .tidy;
       reduced = r .reduced;
       moves = r .moves ∙ ap (λ (n : ℕ). movesWithin bytes n (reducedWords s)) (sym counts);
@@ -263,6 +281,7 @@ module _ (s t words log product : List ℕ) (room : EnoughRoom s t words log pro
           freelyReduced = λ m. absurd (apart (a .verdict) m verdict);
           multipliesOut = λ m. absurd (apart (a .verdict) m verdict);
           fits = λ m. absurd (apart (a .verdict) m verdict);
+          accepted = λ m. absurd (apart (a .verdict) m verdict);
           only = λ m q r d. absurd (apart (a .verdict) m verdict);
           reduces = given-same;
         }
@@ -284,6 +303,11 @@ module _ (s t words log product : List ℕ) (room : EnoughRoom s t words log pro
           freelyReduced = λ m. rw (words-back, back) (found-freely s t (roomFor log) room-ended p e);
           multipliesOut = λ m. rw (words-back, back) (found-multiplied s t (roomFor log) room-ended p e);
           fits = λ m. ap targetRules product-is ∙ product-passes p short named;
+          accepted =
+              λ m.
+              product-accepted (take (slots s * 64) words′) (take 64 product′) t (given-same .wellFormed)
+              (ap targetRules product-is ∙ product-passes p short named) (rw (words-back, back) (found-freely s t (roomFor log) room-ended p e))
+              (rw (words-back, back) (found-multiplied s t (roomFor log) room-ended p e));
           only = λ m q r d. found-only s t (roomFor log) room-ended p e q (rw words-back at r) (rw words-back at d) ∙ sym back;
           reduces = given-same;
         }

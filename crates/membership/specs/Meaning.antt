@@ -13,6 +13,7 @@ use Rattle.records.specs.declared.answers.Checked.the-variants.{Fine}
 use Rattle.records.specs.declared.answers.Verdict.the-variants.{Member, NotMember}
 use Rattle.moves.specs.Logs.{moveSize}
 use Rattle.multiply.specs.Targets.{productOf, targetRules}
+use Rattle.multiply.specs.Multiply.{multiplyRules}
 use Rattle.reduction.specs.Meaning.{EnoughMoves, Reduces}
 use Rattle.reduction.specs.declared.answers.Reduction.{Reduction}
 
@@ -41,6 +42,8 @@ pub record Decides (given target W L P : List ℕ) (answer : Reduction) : Type 0
   pub multipliesOut : answer .verdict ≡ Member → multiplied bytes (systemOf W) (productOf P) ≡ reduce bytes (wordOf target)
   -- "and fits one record"
   pub fits : answer .verdict ≡ Member → targetRules P ≡ Fine
+  -- so multiply takes it with the reduced words
+  pub accepted : answer .verdict ≡ Member → (room : ℕ) → 64 ≤ room → multiplyRules W P room ≡ Fine
   -- "every other product that is freely reduced over those words, of whatever length, multiplies out to another word"
   pub only : answer .verdict ≡ Member → (q : List Factor) → FreelyReducedOver bytes (systemOf W) q
       → multiplied bytes (systemOf W) q ≡ reduce bytes (wordOf target) → q ≡ productOf P

@@ -177,6 +177,7 @@ module _ (s : List ℕ) (n : ℕ) (system : systemRules s ≡ Fine) where
       → Reduces s (bytesOf (runWords s n)) (logOf (runMoves s n)) (reductionOf Fine (reducedWords s) n)
   run-reduces ended =
       record {
+        wellFormed = left-passes;
         tidy = rw left-back (left-tidy s n);
         reduced = rw left-back (left-reduced s n ended);
         moves = logOf-moves (runMoves s n) ∙ sym (moves-again bytes n (reducedWords s));

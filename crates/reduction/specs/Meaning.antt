@@ -27,6 +27,8 @@ EnoughMoves given n = next bytes (runWithin bytes n (reducedWords given)) ≡ no
 
 -- reduce: the given system, the reduced system W and the log L that were written, and the answer
 pub record Reduces (given W L : List ℕ) (answer : Reduction) : Type 0 where
+  -- W is a system again, which every call takes
+  pub wellFormed : systemRules W ≡ Fine
   -- "The result is a reduced system in Nielsen's sense (1921)", of freely reduced words
   pub tidy : Tidy bytes (systemOf W)
   pub reduced : Reduced bytes (systemOf W)
