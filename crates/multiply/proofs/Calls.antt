@@ -6,7 +6,7 @@ use mathlib.Core.List.{List, _++_}
 use native.Mathlib.Omega.{arith}
 use lib.Dec.{leb}
 use borrow.Author.Tests.{leb-true}
-use lib.ListN.{length, take, drop, length-take}
+use lib.ListN.{length, take, drop}
 use lib.Seq.{length-take-le}
 use Rattle.records.specs.Records.{slots, recordOf, written}
 use Rattle.records.specs.Refusals.{must, systemRules, wordRoom, _andThen_}
@@ -16,6 +16,7 @@ use Rattle.records.specs.declared.answers.Checked.the-variants.{Fine, Failed}
 use Rattle.records.proofs.Rules.{then-failed, then-fine}
 use Rattle.records.proofs.Systems.{record-length}
 use Rattle.records.proofs.Calls.{must-fine, fine-first, fine-next, system-size, room-enough}
+use Rattle.moves.proofs.Stepping.{front-short}
 use Rattle.multiply.specs.Targets.{targetRules, slotRule}
 use Rattle.multiply.specs.Multiply.{productWord, multiplyTests, multiplyRules}
 use Rattle.multiply.proofs.Targets.{target-sized}
@@ -91,4 +92,4 @@ pub passed-short : (size : ℕ) {y : Checked} → y ≡ must (leb size 63) 12 0 
 passed-short size e h = leb-true size 63 (must-fine (leb size 63) 12 0 (sym e ∙ h))
 
 pub piece-short : (size : ℕ) (row : List ℕ) {y : Checked} → y ≡ must (leb size 63) 12 0 → y ≡ Fine → length (take (size - 0) row) ≤ 63
-piece-short size row e h = rw (length-take (size - 0) row) (omega (arith, passed-short size e h))
+piece-short size row e h = front-short row size (passed-short size e h)

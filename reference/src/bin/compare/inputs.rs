@@ -2,7 +2,7 @@
 //! damaged records, systems with two faults at once, and random systems of many kinds.
 
 use subgroups_reference::random::{Kind, Random};
-use subgroups_reference::records::{system, MOST_RECORDS, RECORD};
+use subgroups_reference::records::{record, system, MOST_RECORDS, RECORD};
 use subgroups_reference::sheets::{SHEETS, TIDY};
 
 /// The numbers of generators over which random systems are made.
@@ -99,17 +99,36 @@ pub fn for_each_malformed_system(mut lend: impl FnMut(&[u8])) {
 }
 
 /// Lends a system with two faults in one record: the order of rules 3, 4 and 5, and the first byte.
-pub fn for_each_two_faults(mut lend: impl FnMut(&[u8])) {
+pub fn for_each_two_faults(lend: impl FnMut(&[u8])) {
     let base = system(&["abc", "cBAaA", "b"]);
-    for one in RECORD..2 * RECORD {
-        for two in one + 1..2 * RECORD {
-            for (first, second) in [(b'a', b'a'), (b'a', b'?'), (b'?', b'a'), (b'?', b'?')] {
-                let mut changed = base.clone();
+    let faults = [(b'a', b'a'), (b'a', b'?'), (b'?', b'a'), (b'?', b'?')];
+    for_each_two_changed_bytes(&base, RECORD..2 * RECORD, &faults, lend);
+}
+
+/// Lends a record of these letters with two bytes changed, to faulty and to sound ones.
+pub fn for_each_two_changed_letters(text: &str, lend: impl FnMut(&[u8])) {
+    let changes = [(b'a', b'a'), (b'a', b'?'), (b'?', b'z'), (b'z', b'.')];
+    for_each_two_changed_bytes(&record(text), 0..RECORD, &changes, lend);
+}
+
+/// Lends bytes with two of them changed, at any two of the places and to each pair of values.
+fn for_each_two_changed_bytes(
+    base: &[u8],
+    places: std::ops::Range<usize>,
+    values: &[(u8, u8)],
+    mut lend: impl FnMut(&[u8]),
+) {
+    let mut changed = base.to_vec();
+    for one in places.clone() {
+        for two in one + 1..places.end {
+            for &(first, second) in values {
                 changed[one] = first;
                 changed[two] = second;
                 lend(&changed);
             }
+            changed[two] = base[two];
         }
+        changed[one] = base[one];
     }
 }
 

@@ -1,6 +1,5 @@
 //! The entries of the proved static library, as C sees them, lent Rust slices.
 //! The library writes the answer's seven numbers into an array.
-//! An entry that the library has only later stands behind a feature of its name.
 
 #[link(name = "subgroups_c", kind = "static")]
 extern "C" {
@@ -11,7 +10,6 @@ extern "C" {
         words_len: usize,
         answer: *mut [u64; 7],
     );
-    #[cfg(feature = "replay")]
     fn subgroups_replay(
         system: *const u8,
         system_len: usize,
@@ -22,7 +20,6 @@ extern "C" {
         words_len: usize,
         answer: *mut [u64; 7],
     );
-    #[cfg(feature = "multiply")]
     fn subgroups_multiply(
         system: *const u8,
         system_len: usize,
@@ -32,9 +29,7 @@ extern "C" {
         word_len: usize,
         answer: *mut [u64; 7],
     );
-    #[cfg(feature = "test")]
     fn subgroups_test(system: *const u8, system_len: usize, answer: *mut [u64; 7]);
-    #[cfg(feature = "reduce")]
     fn subgroups_reduce(
         system: *const u8,
         system_len: usize,
@@ -44,7 +39,6 @@ extern "C" {
         log_len: usize,
         answer: *mut [u64; 7],
     );
-    #[cfg(feature = "member")]
     fn subgroups_member(
         system: *const u8,
         system_len: usize,
@@ -74,7 +68,6 @@ pub fn tidy(system: &[u8], words: &mut [u8], answer: &mut [u64; 7]) {
 }
 
 /// Calls the library's replay.
-#[cfg(feature = "replay")]
 pub fn replay(system: &[u8], log: &[u8], backward: u8, words: &mut [u8], answer: &mut [u64; 7]) {
     unsafe {
         subgroups_replay(
@@ -91,7 +84,6 @@ pub fn replay(system: &[u8], log: &[u8], backward: u8, words: &mut [u8], answer:
 }
 
 /// Calls the library's multiply.
-#[cfg(feature = "multiply")]
 pub fn multiply(system: &[u8], product: &[u8], word: &mut [u8], answer: &mut [u64; 7]) {
     unsafe {
         subgroups_multiply(
@@ -107,7 +99,6 @@ pub fn multiply(system: &[u8], product: &[u8], word: &mut [u8], answer: &mut [u6
 }
 
 /// Calls the library's test.
-#[cfg(feature = "test")]
 pub fn test(system: &[u8], answer: &mut [u64; 7]) {
     unsafe {
         subgroups_test(system.as_ptr(), system.len(), answer);
@@ -115,7 +106,6 @@ pub fn test(system: &[u8], answer: &mut [u64; 7]) {
 }
 
 /// Calls the library's reduce.
-#[cfg(feature = "reduce")]
 pub fn reduce(system: &[u8], words: &mut [u8], log: &mut [u8], answer: &mut [u64; 7]) {
     unsafe {
         subgroups_reduce(
@@ -131,7 +121,6 @@ pub fn reduce(system: &[u8], words: &mut [u8], log: &mut [u8], answer: &mut [u64
 }
 
 /// Calls the library's member.
-#[cfg(feature = "member")]
 pub fn member(
     system: &[u8],
     target: &[u8],

@@ -302,16 +302,9 @@ fn damaged_targets(tally: &mut Tally, buffers: &mut Buffers) {
             buffers.call(tally, &given, target, exact);
         });
     }
-    for one in 0..RECORD {
-        for two in one + 1..RECORD {
-            for (first, second) in [(b'a', b'a'), (b'a', b'?'), (b'?', b'z'), (b'z', b'.')] {
-                let mut target = record("abCd");
-                target[one] = first;
-                target[two] = second;
-                buffers.call(tally, &given, &target, exact);
-            }
-        }
-    }
+    for_each_two_changed_letters("abCd", |target| {
+        buffers.call(tally, &given, target, exact);
+    });
 }
 
 /// All systems of two and three short words with all short targets.

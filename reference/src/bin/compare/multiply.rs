@@ -160,16 +160,9 @@ fn damaged_products(tally: &mut Tally, buffers: &mut Buffers) {
             buffers.call(tally, &given, product, RECORD - 1);
         });
     }
-    for one in 0..RECORD {
-        for two in one + 1..RECORD {
-            for (first, second) in [(b'a', b'a'), (b'a', b'?'), (b'?', b'z'), (b'z', b'.')] {
-                let mut product = record("aBcdE");
-                product[one] = first;
-                product[two] = second;
-                buffers.call(tally, &given, &product, RECORD);
-            }
-        }
-    }
+    for_each_two_changed_letters("aBcdE", |product| {
+        buffers.call(tally, &given, product, RECORD);
+    });
 }
 
 /// Every letter and capital named at several places, and two at once, over systems of every size.
