@@ -4,15 +4,17 @@ use mathlib.Core.Path.{_≡_}
 use mathlib.Core.Logic.{_↔_, _⊎_}
 use mathlib.Core.List.{List}
 use lib.ListN.{length, take}
-use Rattle.words.specs.Letters.{bytes}
-use Rattle.words.specs.Words.{reduce}
+use Rattle.words.specs.Alphabet.{bytes}
+use Rattle.words.specs.Words.{freelyReduce}
 use Rattle.systems.specs.Products.{Factor, Generated, FreelyReducedOver, multiplied}
-use Rattle.records.specs.Records.{slots, wordOf, systemOf}
-use Rattle.records.specs.Refusals.{systemRules}
+use Rattle.slots.specs.Systems.{slots, systemOf}
+use Rattle.records.specs.Records.{wordOf}
+use Rattle.slots.specs.Refusals.{systemRules}
 use Rattle.records.specs.declared.answers.Checked.the-variants.{Fine}
 use Rattle.records.specs.declared.answers.Verdict.the-variants.{Member, NotMember}
 use Rattle.moves.specs.Logs.{moveSize}
-use Rattle.multiply.specs.Targets.{productOf, targetRules}
+use Rattle.slots.specs.Factors.{productOf}
+use Rattle.records.specs.Refusals.{targetRules}
 use Rattle.multiply.specs.Multiply.{multiplyRules}
 use Rattle.reduction.specs.Meaning.{EnoughMoves, Reduces}
 use Rattle.reduction.specs.declared.answers.Reduction.{Reduction}
@@ -39,14 +41,14 @@ pub record Decides (given target W L P : List ℕ) (answer : Reduction) : Type 0
   -- "For a member the product handed back is itself freely reduced over the reduced words that aren't empty"
   pub freelyReduced : answer .verdict ≡ Member → FreelyReducedOver bytes (systemOf W) (productOf P)
   -- "multiplies out to what w freely reduces to"
-  pub multipliesOut : answer .verdict ≡ Member → multiplied bytes (systemOf W) (productOf P) ≡ reduce bytes (wordOf target)
+  pub multipliesOut : answer .verdict ≡ Member → multiplied bytes (systemOf W) (productOf P) ≡ freelyReduce bytes (wordOf target)
   -- "and fits one record"
   pub fits : answer .verdict ≡ Member → targetRules P ≡ Fine
   -- so multiply takes it with the reduced words
   pub accepted : answer .verdict ≡ Member → (room : ℕ) → 64 ≤ room → multiplyRules W P room ≡ Fine
   -- "every other product that is freely reduced over those words, of whatever length, multiplies out to another word"
   pub only : answer .verdict ≡ Member → (q : List Factor) → FreelyReducedOver bytes (systemOf W) q
-      → multiplied bytes (systemOf W) q ≡ reduce bytes (wordOf target) → q ≡ productOf P
+      → multiplied bytes (systemOf W) q ≡ freelyReduce bytes (wordOf target) → q ≡ productOf P
   -- W, L and the numbers are those of reduce, with all that they mean
   pub reduces : Reduces given W L answer
 

@@ -1,3 +1,139 @@
-// Membership: writing a word as a product over a reduced system, and the call member.
-pub mod factor;
-pub mod member;
+// Member: reduce, and then ask the reduced system about the target.
+ghost use Prim.Native.Nat.{_*_, _≤_};
+ghost use mathlib.Core.Path.{_≡_};
+ghost use lib.ListN.{length};
+ghost use Rattle.words.specs.Buffers.{written};
+ghost use Rattle.records.specs.declared.answers.Checked.the-variants.{Fine};
+ghost use Rattle.slots.specs.Held.{Held, held};
+ghost use Rattle.slots.specs.Systems.{bytesOf};
+ghost use Rattle.factoring.specs.Factors.{isFound, productAfter, productFor, targetWord};
+ghost use Rattle.membership.specs.Meaning.{MemberMeans};
+ghost use Rattle.membership.specs.Membership.{memberAnswer, memberLog, memberProduct, memberTests, memberWords, verdictOf};
+use factoring::factor_target;
+use records::answers::Checked;
+use records::answers::Verdict;
+use records::answers::check_that;
+use records::record::RECORD;
+use records::record::check_target;
+use reduction::answers::Reduction;
+use reduction::reduce::answer_with;
+use reduction::reduce::reduce_held;
+use reduction::reduce::refused;
+use slots::checks::check_room;
+use slots::checks::check_system;
+use slots::held::store;
+
+// Decides whether a target lies in the subgroup that a system generates: the reduced words, the log of the moves and, for a member, the
+// product go into the lent buffers.
+pub fn member(
+    system: &[u8],
+    target: &[u8],
+    words: &mut [u8],
+    log: &mut [u8],
+    product: &mut [u8],
+) -> Reduction
+    ensures answer { λ r. ⌜ r ≡ memberAnswer (now (system .entry)) (now (target .entry)) (now (words .entry)) (now (log .entry)) (now (product .entry)) ⌝ }
+    ensures words { λ _. ⌜ now (words .exit) ≡ memberWords (now (system .entry)) (now (target .entry)) (now (words .entry)) (now (log .entry)) (now (product .entry)) ⌝ }
+    ensures log { λ _. ⌜ now (log .exit) ≡ memberLog (now (system .entry)) (now (target .entry)) (now (words .entry)) (now (log .entry)) (now (product .entry)) ⌝ }
+    ensures product { λ _. ⌜ now (product .exit) ≡ memberProduct (now (system .entry)) (now (target .entry)) (now (words .entry)) (now (log .entry)) (now (product .entry)) ⌝ }
+    ensures means { λ r. ⌜ MemberMeans (now (system .entry)) (now (target .entry)) (now (words .entry)) (now (log .entry)) (now (product .entry)) r (now (words .exit)) (now (log .exit)) (now (product .exit)) ⌝ }
+{
+    member_records(system, target, words, log, product)
+}
+
+// The same, by the definitions of the answer and of the buffers alone.
+fn member_records(
+    system: &[u8],
+    target: &[u8],
+    words: &mut [u8],
+    log: &mut [u8],
+    product: &mut [u8],
+) -> Reduction
+    ensures answer { λ r. ⌜ r ≡ memberAnswer (now (system .entry)) (now (target .entry)) (now (words .entry)) (now (log .entry)) (now (product .entry)) ⌝ }
+    ensures words { λ _. ⌜ now (words .exit) ≡ memberWords (now (system .entry)) (now (target .entry)) (now (words .entry)) (now (log .entry)) (now (product .entry)) ⌝ }
+    ensures log { λ _. ⌜ now (log .exit) ≡ memberLog (now (system .entry)) (now (target .entry)) (now (words .entry)) (now (log .entry)) (now (product .entry)) ⌝ }
+    ensures product { λ _. ⌜ now (product .exit) ≡ memberProduct (now (system .entry)) (now (target .entry)) (now (words .entry)) (now (log .entry)) (now (product .entry)) ⌝ }
+{
+    let checked = check_member(system, target, words.len(), product.len());
+    let Checked::Fine = checked else {
+        return refused(checked);
+    };
+    decide(system, target, words, log, product)
+}
+
+// Member on a system, a target and buffers that passed refusals 1 to 6, 10 and 11.
+fn decide(
+    system: &[u8],
+    target: &[u8],
+    words: &mut [u8],
+    log: &mut [u8],
+    product: &mut [u8],
+) -> Reduction
+    requires { ⌜ memberTests (now system) (now target) (length (now words)) (length (now product)) ≡ Fine ⌝ }
+    ensures answer { λ r. ⌜ r ≡ memberAnswer (now (system .entry)) (now (target .entry)) (now (words .entry)) (now (log .entry)) (now (product .entry)) ⌝ }
+    ensures words { λ _. ⌜ now (words .exit) ≡ memberWords (now (system .entry)) (now (target .entry)) (now (words .entry)) (now (log .entry)) (now (product .entry)) ⌝ }
+    ensures log { λ _. ⌜ now (log .exit) ≡ memberLog (now (system .entry)) (now (target .entry)) (now (words .entry)) (now (log .entry)) (now (product .entry)) ⌝ }
+    ensures product { λ _. ⌜ now (product .exit) ≡ memberProduct (now (system .entry)) (now (target .entry)) (now (words .entry)) (now (log .entry)) (now (product .entry)) ⌝ }
+{
+    let n = system.len() / RECORD;
+    let mut letters = [0u8; 1024];
+    let mut lengths = [0usize; 16];
+    let summary = reduce_held(system, &mut letters, &mut lengths, log);
+    let ended = summary.ended;
+    let Checked::Fine = ended else {
+        return refused(ended);
+    };
+    let verdict = conclude(target, n, &letters, &lengths, words, product);
+    answer_with(summary, verdict)
+}
+
+// Hands back the words held in arrays, and the verdict on a target with its product over them.
+fn conclude(
+    target: &[u8],
+    n: usize,
+    letters: &[u8],
+    lengths: &[usize],
+    words: &mut [u8],
+    product: &mut [u8],
+) -> Verdict
+    requires { ⌜ (length (now target) ≡ 64) × (n * 64 ≤ length (now words)) × (64 ≤ length (now product)) ⌝ }
+    requires { ⌜ Held n (now letters) (now lengths) ⌝ }
+    ensures verdict { λ r. ⌜ r ≡ verdictOf (isFound (productFor (held n (now (letters .entry)) (now (lengths .entry))) (targetWord (now (target .entry))))) ⌝ }
+    ensures words { λ _. ⌜ now (words .exit) ≡ written (bytesOf (held n (now (letters .entry)) (now (lengths .entry)))) (now (words .entry)) ⌝ }
+    ensures product { λ _. ⌜ now (product .exit) ≡ productAfter (productFor (held n (now (letters .entry)) (now (lengths .entry))) (targetWord (now (target .entry)))) (now (product .entry)) ⌝ }
+{
+    store(letters, lengths, n, words);
+    let found = factor_target(target, n, letters, lengths, product);
+    verdict_of(found)
+}
+
+// The verdict on a target.
+fn verdict_of(found: bool) -> Verdict
+    ensures { λ r. ⌜ r ≡ verdictOf found ⌝ }
+{
+    if found {
+        Verdict::Member
+    } else {
+        Verdict::NotMember
+    }
+}
+
+// Refusals 1 to 5, 6, 10 and 11.
+fn check_member(system: &[u8], target: &[u8], room: usize, product: usize) -> Checked
+    ensures { λ r. ⌜ r ≡ memberTests (now (system .entry)) (now (target .entry)) room product ⌝ }
+{
+    let checked = check_system(system);
+    let Checked::Fine = checked else {
+        return checked;
+    };
+    let targeted = check_target(target);
+    let Checked::Fine = targeted else {
+        return targeted;
+    };
+    let n = system.len() / RECORD;
+    let roomy = check_room(n * RECORD, room);
+    let Checked::Fine = roomy else {
+        return roomy;
+    };
+    check_that(product >= RECORD, 11)
+}

@@ -1,6 +1,4 @@
 -- Laws that the proofs of several functions cite.
-pub mod Counting
-pub mod Joining
-pub mod Parts
-pub mod Stepping
+pub mod Making
 pub mod Logging
+pub mod LogBack

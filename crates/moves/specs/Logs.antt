@@ -1,15 +1,14 @@
 -- Log records: "One move in a log is 4 bytes: slot changed, form digit, other slot, line feed."
-use Prim.Native.Nat.{ℕ, zero, suc, _+_, _-_, _*_, _/_, _%_}
-use mathlib.Core.Bool.{Bool, not, _&&_}
-use mathlib.Core.List.{List, [], _∷_, _++_}
-use lib.ListN.{length, getD}
-use lib.Dec.{leb, ltb, eqb}
-use Rattle.moves.specs.declared.log.Step.{Step}
-use Rattle.systems.specs.Moves.{Form, form₁, form₂, form₃, form₄, Move}
+use Prim.Native.Nat.{_%_, _*_, _+_, _-_, _/_, ℕ}
+use mathlib.Core.Bool.{Bool, _&&_, not}
+use mathlib.Core.List.{List, [], _++_, _∷_}
+use lib.Dec.{eqb, leb, ltb}
+use lib.ListN.{getD, length}
+use Rattle.words.specs.Below.{below}
+use Rattle.systems.specs.Moves.{Form, Move, form₁, form₂, form₃, form₄}
 use Rattle.systems.specs.Rules.{formAt}
-use Rattle.records.specs.Refusals.{must, _andThen_}
+use Rattle.records.specs.Refusals.{_andThen_, eachBelow, must}
 use Rattle.records.specs.declared.answers.Checked.{Checked}
-use Rattle.records.specs.declared.answers.Checked.the-variants.{Fine}
 
 -- how many bytes a log record has
 abbrev pub moveSize : ℕ
@@ -26,7 +25,7 @@ formDigit form₄ = 52
 abbrev pub logRecord : Move → List ℕ
 logRecord m = (97 + m .changed) ∷ formDigit (m .form) ∷ (97 + m .other) ∷ 10 ∷ []
 
--- the log of a row of moves
+-- the log of a list of moves
 abbrev pub logOf : List Move → List ℕ
 logOf [] = []
 logOf (m ∷ ms) = logRecord m ++ logOf ms
@@ -40,13 +39,9 @@ moveAt log j =
       other = getD log (j * moveSize + 2) 0 - 97;
     }
 
--- the moves in the first n log records, and in a whole log
-abbrev pub movesBelow : ℕ → List ℕ → List Move
-movesBelow zero log = []
-movesBelow (suc n) log = movesBelow n log ++ (moveAt log n ∷ [])
-
+-- the moves in a log
 abbrev pub movesIn : List ℕ → List Move
-movesIn log = movesBelow (length log / moveSize) log
+movesIn log = below (moveAt log) (length log / moveSize)
 
 -- a byte names one of the first n slots
 abbrev pub namesSlot : ℕ → ℕ → Bool
@@ -61,15 +56,10 @@ isMove n log j =
     && eqb (getD log (j * moveSize + 3) 0) 10
     && not (eqb (getD log (j * moveSize) 0) (getD log (j * moveSize + 2) 0))
 
--- 8, on the first m log records of a log over n slots
-abbrev pub eachMove : ℕ → ℕ → List ℕ → Checked
-eachMove n zero log = Fine
-eachMove n (suc m) log = eachMove n m log andThen must (isMove n log m) 8 (m * moveSize)
+-- 8, on a log record of a log over n slots
+abbrev pub moveRule : ℕ → List ℕ → ℕ → Checked
+moveRule n log j = must (isMove n log j) 8 (j * moveSize)
 
 -- 7. "The log to replay has a length that is not a multiple of 4." Then 8.
 unfoldable pub logRules : ℕ → List ℕ → Checked
-logRules n log = must (eqb (length log % moveSize) 0) 7 0 andThen eachMove n (length log / moveSize) log
-
--- a move as the functions hand it on, its form counted from 0
-abbrev pub moveOf : Step → Move
-moveOf m = record { changed = m .changed; form = formAt (m .form); other = m .other }
+logRules n log = must (eqb (length log % moveSize) 0) 7 0 andThen eachBelow (moveRule n log) (length log / moveSize)

@@ -1,5 +1,4 @@
-// Moves on words held in arrays: what cancels between two words, counted in place; freely reduced products; one move; log records.
-pub mod cancellation;
+// Moves on words held in arrays: a move, its log record, and how it is made.
+pub mod found;
 pub mod log;
-pub mod product;
-pub mod step;
+pub mod make;

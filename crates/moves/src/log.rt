@@ -1,22 +1,18 @@
 // Log records: one reader, one writer, one size.
-ghost use mathlib.Core.Path.{_≡_};
+ghost use Prim.Native.Nat.{_*_, _+_, _-_, _<_, _≤_};
 ghost use mathlib.Core.Bool.{true};
 ghost use mathlib.Core.List.{_++_};
-ghost use Prim.Native.Nat.{_+_, _-_, _*_, _≤_, _<_};
-ghost use lib.ListN.{length, take, drop};
-ghost use Rattle.moves.specs.Logs.{logRecord, moveAt, moveOf, namesSlot, isMove, eachMove, logRules};
+ghost use mathlib.Core.Path.{_≡_};
+ghost use lib.ListN.{drop, length, take};
+ghost use Rattle.records.specs.Refusals.{eachBelow};
+ghost use Rattle.moves.specs.Found.{moveOf};
+ghost use Rattle.moves.specs.Logs.{isMove, logRecord, logRules, moveAt, moveRule, moveSize, namesSlot};
+use crate::found::Move;
 use records::answers::Checked;
 use records::answers::refuse;
 
 // The bytes of a log record.
 pub const MOVE: usize = 4;
-
-// A move: the changed slot, the form, counted from 0, and the other slot.
-pub struct Step {
-    pub changed: usize,
-    pub form: usize,
-    pub other: usize,
-}
 
 // How far a byte stands above another.
 fn above(b: u8, base: u8) -> usize
@@ -38,7 +34,7 @@ fn names_slot(n: usize, b: u8) -> bool
 
 // Whether a log record is a move over n slots.
 fn is_move(n: usize, log: &[u8], j: usize) -> bool
-    requires { ⌜ j * 4 + 4 ≤ length (now log) ⌝ }
+    requires { ⌜ j * moveSize + moveSize ≤ length (now log) ⌝ }
     ensures { λ r. ⌜ r ≡ isMove n (now (log .entry)) j ⌝ }
 {
     let at = j * MOVE;
@@ -79,8 +75,8 @@ pub fn check_log(n: usize, log: &[u8]) -> Checked
 
 // Refusal 8 on the first m log records.
 fn check_moves(n: usize, log: &[u8], m: usize) -> Checked
-    requires { ⌜ m * 4 ≤ length (now log) ⌝ }
-    ensures { λ r. ⌜ r ≡ eachMove n m (now (log .entry)) ⌝ }
+    requires { ⌜ m * moveSize ≤ length (now log) ⌝ }
+    ensures { λ r. ⌜ r ≡ eachBelow (moveRule n (now (log .entry))) m ⌝ }
 {
     let mut j = 0;
     while j < m {
@@ -94,15 +90,15 @@ fn check_moves(n: usize, log: &[u8], m: usize) -> Checked
 }
 
 // Reads the move in a log record that is one over n slots.
-pub fn read_move(n: usize, log: &[u8], j: usize) -> Step
-    requires { ⌜ j * 4 + 4 ≤ length (now log) ⌝ }
+pub fn read_move(n: usize, log: &[u8], j: usize) -> Move
+    requires { ⌜ j * moveSize + moveSize ≤ length (now log) ⌝ }
     requires { ⌜ isMove n (now log) j ≡ true ⌝ }
     ensures slots { λ r. ⌜ (r .changed < n) × (r .other < n) × (r .form < 4) ⌝ }
     ensures apart { λ r. ⌜ (r .changed ≡ r .other → ⊥) ⌝ }
     ensures read { λ r. ⌜ moveOf r ≡ moveAt (now (log .entry)) j ⌝ }
 {
     let at = j * MOVE;
-    Step {
+    Move {
         changed: above(log[at], 97),
         form: above(log[at + 1], 49),
         other: above(log[at + 2], 97),
@@ -110,10 +106,10 @@ pub fn read_move(n: usize, log: &[u8], j: usize) -> Step
 }
 
 // Writes a move as a log record.
-pub fn write_move(log: &mut [u8], j: usize, m: Step)
-    requires { ⌜ j * 4 + 4 ≤ length (now log) ⌝ }
+pub fn write_move(log: &mut [u8], j: usize, m: Move)
+    requires { ⌜ j * moveSize + moveSize ≤ length (now log) ⌝ }
     requires { ⌜ (m .changed < 16) × (m .other < 16) × (m .form < 4) ⌝ }
-    ensures { λ _. ⌜ now (log .exit) ≡ take (j * 4) (now (log .entry)) ++ (logRecord (moveOf m) ++ drop (j * 4 + 4) (now (log .entry))) ⌝ }
+    ensures { λ _. ⌜ now (log .exit) ≡ take (j * moveSize) (now (log .entry)) ++ (logRecord (moveOf m) ++ drop (j * moveSize + moveSize) (now (log .entry))) ⌝ }
 {
     let at = j * MOVE;
     log[at] = 97 + m.changed as u8;

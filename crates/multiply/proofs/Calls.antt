@@ -1,45 +1,27 @@
 -- The call multiply: its tests in their order, what they leave to the code after them, and the answer and the buffer from the word that
--- comes out. Refusal 12 looks at the length of that word alone, not at what stood in the row on the way.
-use Prim.Native.Nat.{ℕ, _-_, _/_, _≤_}
-use mathlib.Core.Path.{_≡_, sym, ap, _∙_}
+-- comes out. Refusal 12 looks at the length of that word alone, not at what stood in the list on the way.
+use Prim.Native.Nat.{_-_, _≤_, ℕ}
 use mathlib.Core.List.{List, _++_}
+use mathlib.Core.Path.{_∙_, _≡_, ap, sym}
 use native.Mathlib.Omega.{arith}
 use lib.Dec.{leb}
-use borrow.Author.Tests.{leb-true}
-use lib.ListN.{length, take, drop}
+use lib.ListN.{drop, length, take}
 use lib.Seq.{length-take-le}
-use Rattle.records.specs.Records.{slots, recordOf, written}
-use Rattle.records.specs.Refusals.{must, systemRules, wordRoom, _andThen_}
-use Rattle.records.specs.declared.answers.Refusal.{Refusal}
+use borrow.Author.Tests.{leb-true}
+use Rattle.words.specs.Buffers.{written}
+use Rattle.records.specs.Records.{recordOf}
+use Rattle.records.specs.Refusals.{_andThen_, must, targetRules}
 use Rattle.records.specs.declared.answers.Checked.{Checked}
-use Rattle.records.specs.declared.answers.Checked.the-variants.{Fine, Failed}
-use Rattle.records.proofs.Rules.{then-failed, then-fine}
-use Rattle.records.proofs.Systems.{record-length}
-use Rattle.records.proofs.Calls.{must-fine, fine-first, fine-next, system-size, room-enough}
-use Rattle.moves.proofs.Stepping.{front-short}
-use Rattle.multiply.specs.Targets.{targetRules, slotRule}
-use Rattle.multiply.specs.Multiply.{productWord, multiplyTests, multiplyRules}
-use Rattle.multiply.proofs.Targets.{target-sized}
-
--- the tests of multiply, in their order
-module _ (s p : List ℕ) (room : ℕ) where
-  pub tests-system : {x : Checked} {f : Refusal} → x ≡ systemRules s → x ≡ Failed f → x ≡ multiplyTests s p room
-  unfolding multiplyTests
-  tests-system e h = then-failed _ _ e h
-
-  module _ {q : Checked} (system : q ≡ systemRules s) (passed : q ≡ Fine) where
-    pub tests-target : {x : Checked} {f : Refusal} → x ≡ targetRules p → x ≡ Failed f → x ≡ multiplyTests s p room
-    unfolding multiplyTests
-    tests-target e h = then-fine _ _ system passed (then-failed _ _ e h)
-
-    module _ {t : Checked} (target : t ≡ targetRules p) (passed₂ : t ≡ Fine) where
-      pub tests-slots : {x : Checked} {f : Refusal} → x ≡ slotRule (length s / 64) p → x ≡ Failed f → x ≡ multiplyTests s p room
-      unfolding multiplyTests
-      tests-slots e h = then-fine _ _ system passed (then-fine _ _ target passed₂ (then-failed _ _ e h))
-
-      pub tests-room : {u x : Checked} → u ≡ slotRule (length s / 64) p → u ≡ Fine → x ≡ wordRoom 64 room → x ≡ multiplyTests s p room
-      unfolding multiplyTests
-      tests-room e h told = then-fine _ _ system passed (then-fine _ _ target passed₂ (then-fine _ _ e h told))
+use Rattle.records.specs.declared.answers.Checked.the-variants.{Failed, Fine}
+use Rattle.records.specs.declared.answers.Refusal.{Refusal}
+use Rattle.records.proofs.Chains.{fine-first, fine-next, must-fine, then-failed, then-fine}
+use Rattle.records.proofs.Targets.{target-sized}
+use Rattle.slots.specs.Refusals.{systemRules, wordRoom}
+use Rattle.slots.specs.Systems.{slots}
+use Rattle.slots.proofs.Systems.{record-length, room-enough, system-size}
+use Rattle.moves.proofs.Making.{front-short}
+use Rattle.multiply.specs.Multiply.{multiplyRules, multiplyTests, productWord}
+use Rattle.multiply.specs.Targets.{slotRule}
 
 -- what the tests leave, and the whole answer
 module _ (s p : List ℕ) (room : ℕ) {x : Checked} (tests : x ≡ multiplyTests s p room) where
@@ -68,9 +50,9 @@ module _ (s p : List ℕ) (room : ℕ) {x : Checked} (tests : x ≡ multiplyTest
     pub passed-room : 64 ≤ room
     passed-room = room-enough 64 room (fine-next (slotRule (slots s) p) _ past-target)
 
-    module _ (row : List ℕ) (size : ℕ) (told : take size row ≡ productWord s p) (within : size ≤ 4096) (full : length row ≡ 4096) where
+    module _ (list : List ℕ) (size : ℕ) (told : take size list ≡ productWord s p) (within : size ≤ 4096) (full : length list ≡ 4096) where
       comes-to : length (productWord s p) ≡ size
-      comes-to = ap length (sym told) ∙ length-take-le size row (omega arith)
+      comes-to = ap length (sym told) ∙ length-take-le size list (omega arith)
 
       -- refusal 12
       pub rules-told : {y : Checked} → y ≡ must (leb size 63) 12 0 → y ≡ multiplyRules s p room
@@ -78,11 +60,11 @@ module _ (s p : List ℕ) (room : ℕ) {x : Checked} (tests : x ≡ multiplyTest
       rules-told e = then-fine _ _ tests passed (e ∙ ap (λ (n : ℕ). must (leb n 63) 12 0) (sym comes-to))
 
       -- the record of that word at the beginning of the buffer, and the bytes after it as they were
-      pub word-written : {y : List ℕ} (buffer : List ℕ) → size ≤ 63 → y ≡ recordOf (take (size - 0) row)
+      pub word-written : {y : List ℕ} (buffer : List ℕ) → size ≤ 63 → y ≡ recordOf (take (size - 0) list)
           → y ++ drop 64 buffer ≡ written (recordOf (productWord s p)) buffer
       word-written {y} buffer h e =
           let same : size - 0 ≡ size = omega arith in
-          let word-is : take (size - 0) row ≡ productWord s p = ap (λ (k : ℕ). take k row) same ∙ told in
+          let word-is : take (size - 0) list ≡ productWord s p = ap (λ (k : ℕ). take k list) same ∙ told in
           let long : 64 ≡ length (recordOf (productWord s p)) = sym (record-length (productWord s p) (omega (arith, comes-to))) in
           ap (λ (l : List ℕ). l ++ drop 64 buffer) (e ∙ ap recordOf word-is)
           ∙ ap (λ (k : ℕ). recordOf (productWord s p) ++ drop k buffer) long
@@ -91,5 +73,5 @@ module _ (s p : List ℕ) (room : ℕ) {x : Checked} (tests : x ≡ multiplyTest
 pub passed-short : (size : ℕ) {y : Checked} → y ≡ must (leb size 63) 12 0 → y ≡ Fine → size ≤ 63
 passed-short size e h = leb-true size 63 (must-fine (leb size 63) 12 0 (sym e ∙ h))
 
-pub piece-short : (size : ℕ) (row : List ℕ) {y : Checked} → y ≡ must (leb size 63) 12 0 → y ≡ Fine → length (take (size - 0) row) ≤ 63
-piece-short size row e h = front-short row size (passed-short size e h)
+pub piece-short : (size : ℕ) (list : List ℕ) {y : Checked} → y ≡ must (leb size 63) 12 0 → y ≡ Fine → length (take (size - 0) list) ≤ 63
+piece-short size list e h = front-short list size (passed-short size e h)

@@ -1,100 +1,91 @@
--- Multiplying a product out, one factor after the other, over words that are held in arrays: the row in which this is done is multiplied
+-- Multiplying a product out, one factor after the other, over words that are held in arrays: the list in which this is done is multiplied
 -- by the word or the inverse word that a letter of the product stands for, and stays freely reduced.
-use Prim.Native.Nat.{ℕ, _+_, _-_, _*_, _/_, _≤_, _<_}
-use mathlib.Core.Path.{_≡_, refl, sym, ap, _∙_}
-use mathlib.Core.List.{List, [], _∷_, _++_, map, append-nil}
-use native.Mathlib.Omega.{arith}
-use native.Mathlib.Numerals.{add-one}
+use Prim.Native.Nat.{_+_, _/_, _<_, _≤_, ℕ}
+use mathlib.Core.List.{List, _++_, append-nil, map}
+use mathlib.Core.Path.{_∙_, _≡_, ap, refl, sym}
 use native.Mathlib.Nat.{le-antisymm}
-use borrow.Author.Tests.{lt-ltb, le-ltb}
-use lib.ListN.{length, take, drop, getD}
+use native.Mathlib.Numerals.{add-one}
+use native.Mathlib.Omega.{arith}
+use lib.ListN.{getD, length, take}
 use lib.Seq.{take-suc}
-use Rattle.words.specs.Letters.{bytes}
-use Rattle.words.specs.Words.{reduce, inverse}
-use Rattle.words.proofs.Letters.{byteLaws}
-use Rattle.words.proofs.Reduction.{reduce-left, reduce-twice}
-use Rattle.systems.specs.Products.{Factor, Tidy, word, value, spelled, multiplied}
+use borrow.Author.Tests.{le-ltb, lt-ltb}
+use Rattle.words.specs.Alphabet.{bytes}
+use Rattle.words.specs.Words.{freelyReduce, inverse}
+use Rattle.words.proofs.Alphabet.{byteLaws}
+use Rattle.words.proofs.Below.{map-last}
+use Rattle.words.proofs.FreeReduction.{freelyReduce-left, freelyReduce-twice}
+use Rattle.systems.specs.Products.{multiplied, spelled, value, word}
+use Rattle.systems.proofs.Equivalence.{reduced-multiplied}
 use Rattle.systems.proofs.ProductLaws.{spelled-append}
-use Rattle.systems.proofs.Equivalence.{reduced-multiplied, reduced-tidy}
-use Rattle.records.specs.Records.{slots, wordOf, systemOf}
-use Rattle.records.specs.Held.{held}
-use Rattle.records.specs.Calls.{reducedWords}
-use Rattle.moves.proofs.Parts.{part-word, part-short, part-tidy}
-use Rattle.multiply.specs.Targets.{factorOf, productOf}
+use Rattle.records.specs.Records.{wordOf}
+use Rattle.slots.specs.Factors.{factorOf, productOf}
+use Rattle.slots.specs.Held.{Held, held, heldWord}
+use Rattle.slots.specs.Systems.{freelyReducedWords, slots, systemOf}
+use Rattle.slots.proofs.Holding.{held-reduced, held-short, held-word}
 use Rattle.multiply.specs.Multiply.{productWord}
 
-map-last : (w : List ℕ) (b : ℕ) → map factorOf (w ++ (b ∷ [])) ≡ map factorOf w ++ (factorOf b ∷ [])
-map-last [] b = refl
-map-last (a ∷ w) b = ap (λ (p : List Factor). factorOf a ∷ p) (map-last w b)
-
--- the row is multiplied by the word of the slot that a letter names, which is handed on as a part of the letters held
-module _ (b n k size : ℕ) (letters lengths : List ℕ) (named : k ≡ factorOf b .slot) (inside : factorOf b .slot < n)
-    (sized : size ≡ getD lengths k 0) where
-  pub factor-tidy : Tidy bytes (held n letters lengths)
-      → reduce bytes (take (k * 64 + size - k * 64) (drop (k * 64) letters)) ≡ take (k * 64 + size - k * 64) (drop (k * 64) letters)
-  factor-tidy tidy = part-tidy letters lengths n k size sized (omega arith) tidy
-
-  factor-word : take (k * 64 + size - k * 64) (drop (k * 64) letters) ≡ word bytes (held n letters lengths) (factorOf b .slot)
-  factor-word = part-word letters lengths n k size sized (omega arith) ∙ ap (word bytes (held n letters lengths)) named
+-- the list is multiplied by the word of the slot that a letter names
+module _ (b n k : ℕ) (letters lengths u : List ℕ) (named : k ≡ factorOf b .slot) (inside : factorOf b .slot < n)
+    (mine : u ≡ heldWord letters lengths k) where
+  factor-word : u ≡ word bytes (held n letters lengths) (factorOf b .slot)
+  factor-word = mine ∙ sym (held-word n k letters lengths (omega arith)) ∙ ap (word bytes (held n letters lengths)) named
 
   -- a capital stands for the inverse
-  pub pushed-capital : {x : List ℕ} (v : List ℕ) → b < 97
-      → x ≡ reduce bytes (v ++ inverse bytes (take (k * 64 + size - k * 64) (drop (k * 64) letters)))
-      → x ≡ reduce bytes (v ++ value bytes (held n letters lengths) (factorOf b))
+  pub pushed-capital : {x : List ℕ} (v : List ℕ) → b < 97 → x ≡ freelyReduce bytes (v ++ inverse bytes u)
+      → x ≡ freelyReduce bytes (v ++ value bytes (held n letters lengths) (factorOf b))
   pushed-capital v low told =
       let same : value bytes (held n letters lengths) (factorOf b) ≡ inverse bytes (word bytes (held n letters lengths) (factorOf b .slot)) =
       rw (lt-ltb b 97 low) in
-      told ∙ ap (λ (w : List ℕ). reduce bytes (v ++ w)) (ap (inverse bytes) factor-word ∙ sym same)
+      told ∙ ap (λ (w : List ℕ). freelyReduce bytes (v ++ w)) (ap (inverse bytes) factor-word ∙ sym same)
 
-  pub pushed-small : {x : List ℕ} (v : List ℕ) → 97 ≤ b → x ≡ reduce bytes (v ++ take (k * 64 + size - k * 64) (drop (k * 64) letters))
-      → x ≡ reduce bytes (v ++ value bytes (held n letters lengths) (factorOf b))
+  pub pushed-small : {x : List ℕ} (v : List ℕ) → 97 ≤ b → x ≡ freelyReduce bytes (v ++ u)
+      → x ≡ freelyReduce bytes (v ++ value bytes (held n letters lengths) (factorOf b))
   pushed-small v high told =
       let same : value bytes (held n letters lengths) (factorOf b) ≡ word bytes (held n letters lengths) (factorOf b .slot) =
       rw (le-ltb b 97 high) in
-      told ∙ ap (λ (w : List ℕ). reduce bytes (v ++ w)) (factor-word ∙ sym same)
+      told ∙ ap (λ (w : List ℕ). freelyReduce bytes (v ++ w)) (factor-word ∙ sym same)
 
--- and its length grows by at most 63
-module _ (k size m : ℕ) (letters lengths : List ℕ) (sized : size ≡ getD lengths k 0) (short : size ≤ 63) where
-  pub factor-room : (row : List ℕ) → m + 63 ≤ length row → m + length (take (k * 64 + size - k * 64) (drop (k * 64) letters)) ≤ length row
-  factor-room row room = omega (arith, part-short letters lengths 0 k size sized short)
+  pub factor-reduced : Held n letters lengths → freelyReduce bytes u ≡ u
+  factor-reduced here = held-reduced letters lengths u n k here (omega arith) mine
 
-  pub factor-longer : (r : ℕ) → r ≤ m + length (take (k * 64 + size - k * 64) (drop (k * 64) letters)) → r ≤ m + 63
-  factor-longer r h = omega (arith, part-short letters lengths 0 k size sized short)
+  -- and its length grows by at most 63
+  module _ (here : Held n letters lengths) (m : ℕ) where
+    pub factor-room : (list : List ℕ) → m + 63 ≤ length list → m + length u ≤ length list
+    factor-room list room = omega (arith, held-short letters lengths u k (here .short) mine)
 
--- a product is multiplied out, its first letter first: the row holds what the letters read so far come to
-pub record ReadTo (S : List (List ℕ)) (product row : List ℕ) (size j : ℕ) : Type 0 where
-  pub holds : take size row ≡ multiplied bytes S (map factorOf (take j product))
+    pub factor-longer : (r : ℕ) → r ≤ m + length u → r ≤ m + 63
+    factor-longer r h = omega (arith, held-short letters lengths u k (here .short) mine)
 
-pub row-begin : (S : List (List ℕ)) (product row : List ℕ) → ReadTo S product row 0 0
-row-begin S product row = record { holds = refl }
+-- a product is multiplied out, its first letter first: the list holds what the letters read so far come to
+pub record ReadTo (S : List (List ℕ)) (product list : List ℕ) (size j : ℕ) : Type 0 where
+  pub holds : take size list ≡ multiplied bytes S (map factorOf (take j product))
 
-module _ (S : List (List ℕ)) (product row : List ℕ) (size j : ℕ) (here : ReadTo S product row size j) where
-  pub row-tidy : reduce bytes (take size row) ≡ take size row
-  row-tidy = rw (here .holds) (reduce-twice bytes byteLaws (spelled bytes S (map factorOf (take j product))))
+pub read-begin : (S : List (List ℕ)) (product list : List ℕ) → ReadTo S product list 0 0
+read-begin S product list = record { holds = refl }
 
-  pub row-more : (out : List ℕ) (r count : ℕ) → j < count → count ≤ 63 → length product ≡ 64
-      → take r out ≡ reduce bytes (take size row ++ value bytes S (factorOf (getD product j 0))) → ReadTo S product out r (j + 1)
-  row-more out r count inside short sized told =
+module _ (S : List (List ℕ)) (product list : List ℕ) (size j : ℕ) (here : ReadTo S product list size j) where
+  pub read-freelyReduced : freelyReduce bytes (take size list) ≡ take size list
+  read-freelyReduced = rw (here .holds) (freelyReduce-twice bytes byteLaws (spelled bytes S (map factorOf (take j product))))
+
+  pub read-more : (out : List ℕ) (r count : ℕ) → j < count → count ≤ 63 → length product ≡ 64
+      → take r out ≡ freelyReduce bytes (take size list ++ value bytes S (factorOf (getD product j 0))) → ReadTo S product out r (j + 1)
+  read-more out r count inside short sized told =
       let read : List ℕ = spelled bytes S (map factorOf (take j product)) in
       record {
         holds =
             rw (told, here .holds, add-one, take-suc product j 0 (omega arith), map-last, spelled-append bytes byteLaws S, append-nil)
-            (sym (reduce-left bytes byteLaws read (value bytes S (factorOf (getD product j 0)))));
+            (sym (freelyReduce-left bytes byteLaws read (value bytes S (factorOf (getD product j 0)))));
       }
 
-  pub row-all : (count : ℕ) → take count product ≡ wordOf product → count ≤ j → j ≤ count
-      → take size row ≡ multiplied bytes S (productOf product)
-  row-all count told l h =
+  pub read-all : (count : ℕ) → take count product ≡ wordOf product → count ≤ j → j ≤ count
+      → take size list ≡ multiplied bytes S (productOf product)
+  read-all count told l h =
       here .holds ∙ ap (λ (i : ℕ). multiplied bytes S (map factorOf (take i product))) (le-antisymm h l)
       ∙ ap (λ (w : List ℕ). multiplied bytes S (map factorOf w)) told
 
 -- the arrays hold the words of the system freely reduced, which changes no product
-module _ (s letters lengths : List ℕ) (loaded : held (slots s) letters lengths ≡ reducedWords s) where
-  pub loaded-tidy : Tidy bytes (held (length s / 64) letters lengths)
-  unfolding reducedWords
-  loaded-tidy = rw loaded (reduced-tidy bytes byteLaws (systemOf s))
-
+module _ (s letters lengths : List ℕ) (loaded : held (slots s) letters lengths ≡ freelyReducedWords s) where
   pub loaded-word : {x : List ℕ} (p : List ℕ) → x ≡ multiplied bytes (held (length s / 64) letters lengths) (productOf p) → x ≡ productWord s p
-  unfolding reducedWords productWord
+  unfolding freelyReducedWords productWord
   loaded-word p told =
       told ∙ ap (λ (S : List (List ℕ)). multiplied bytes S (productOf p)) loaded ∙ reduced-multiplied bytes byteLaws (systemOf s) (productOf p)

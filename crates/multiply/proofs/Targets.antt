@@ -1,25 +1,21 @@
 -- Records beside a system: the tests of a target or a product, refusals 6 and 9, case by case and letter by letter,
 -- and what a record that passes them tells of its length, its rules and the slots that it names.
-use Prim.Native.Nat.{ℕ, zero, suc, _+_, _-_, _≤_, _<_}
-use mathlib.Core.Path.{_≡_, refl, sym, ap, _∙_}
+use Prim.Native.Nat.{_+_, _-_, _<_, _≤_, suc, zero, ℕ}
 use mathlib.Core.List.{List, [], _∷_, map}
+use mathlib.Core.Path.{_∙_, _≡_, ap, refl, sym}
 use native.Mathlib.Omega.{arith}
-use borrow.Author.Tests.{lt-ltb, le-ltb, eq-eqb, ne-eqb, ltb-true, eqb-true}
-use lib.Dec.{eqb}
-use lib.ListN.{length, take, drop, getD, drop-of-length-le}
-use lib.Seq.{length-take-le, getD-take}
-use Rattle.words.specs.Letters.{Letters}
-use Rattle.words.proofs.Letters.{LetterLaws}
-use Rattle.systems.specs.Products.{Over}
-use Rattle.systems.proofs.ProductLaws.{Named, named-over}
+use lib.ListN.{drop, drop-of-length-le, getD, length, take}
+use lib.Seq.{getD-take, length-take-le}
+use borrow.Author.Tests.{le-ltb, lt-ltb, ltb-true}
+use Rattle.words.proofs.Buffers.{drop-here}
+use Rattle.systems.proofs.ProductLaws.{Named}
 use Rattle.records.specs.Records.{wordOf}
-use Rattle.records.specs.Refusals.{refusal, must, recordRules, eachByte}
-use Rattle.records.specs.declared.answers.Refusal.{Refusal}
+use Rattle.records.specs.Refusals.{eachByte, must, refusal}
 use Rattle.records.specs.declared.answers.Checked.{Checked}
-use Rattle.records.specs.declared.answers.Checked.the-variants.{Fine, Failed}
-use Rattle.records.proofs.Rows.{drop-here}
-use Rattle.records.proofs.Calls.{fine-first, fine-next, must-fine}
-use Rattle.multiply.specs.Targets.{factorOf, productOf, asSix, targetRules, hasSlot, slotRule}
+use Rattle.records.specs.declared.answers.Checked.the-variants.{Fine}
+use Rattle.records.proofs.Chains.{fine-first, fine-next, must-fine}
+use Rattle.slots.specs.Factors.{factorOf, productOf}
+use Rattle.multiply.specs.Targets.{hasSlot, slotRule}
 
 -- the slot that a letter names, by where it stands
 module _ (b : ℕ) where
@@ -31,39 +27,6 @@ module _ (b : ℕ) where
 
   pub slot-small : 97 ≤ b → b - 97 ≡ factorOf b .slot
   slot-small h = rw (le-ltb b 97 h)
-
--- refusal 6, case by case
-module _ (r : List ℕ) where
-  pub target-short : {x : Checked} → (length r ≡ 64 → ⊥) → x ≡ refusal 6 0 → x ≡ targetRules r
-  unfolding targetRules
-  target-short bad e = rw (ne-eqb _ _ bad, e)
-
-  pub target-fine : {x : Checked} → length r ≡ 64 → x ≡ recordRules r 0 → x ≡ Fine → x ≡ targetRules r
-  unfolding targetRules
-  target-fine sized e h = rw (eq-eqb _ _ sized, ← e, h)
-
-  pub target-broken : {x y : Checked} {f : Refusal} → length r ≡ 64 → x ≡ recordRules r 0 → x ≡ Failed f → y ≡ refusal 6 (f .place)
-      → y ≡ targetRules r
-  unfolding targetRules
-  target-broken sized e h told = rw (eq-eqb _ _ sized, ← e, h, told)
-
--- a refusal of a record is none of a target only where there is none
-pub six-fine : (c : Checked) → asSix c ≡ Fine → c ≡ Fine
-six-fine Fine e = refl
-six-fine (Failed f) e = let z : _≡_ {A = ℕ} 0 1 = cc in absurd (omega arith)
-
--- a target that passes is 64 bytes long
-pub target-sized : (r : List ℕ) → targetRules r ≡ Fine → length r ≡ 64
-unfolding targetRules
-target-sized r e = eqb-true _ _ (must-fine _ 6 0 (fine-first (must (eqb (length r) 64) 6 0) _ e))
-
-pub target-told : {x : Checked} (r : List ℕ) → x ≡ targetRules r → x ≡ Fine → length r ≡ 64
-target-told r e h = target-sized r (sym e ∙ h)
-
--- and it breaks no rule of a record
-pub target-record : (r : List ℕ) → targetRules r ≡ Fine → recordRules r 0 ≡ Fine
-unfolding targetRules
-target-record r e = six-fine _ (fine-next (must (eqb (length r) 64) 6 0) _ e)
 
 -- refusal 9, one letter of the product after the other
 module _ (n count i : ℕ) (r : List ℕ) (sized : length r ≡ 64) (short : count ≤ 63) (told : take count r ≡ wordOf r) where
@@ -92,7 +55,7 @@ pub slots-begin : (n : ℕ) (r : List ℕ) → slotRule n r ≡ eachByte (hasSlo
 unfolding slotRule
 slots-begin n r = refl
 
--- a row of letters that passes names only the first n slots
+-- a list of letters that passes names only the first n slots
 passed-named : (n : ℕ) (w : List ℕ) (at : ℕ) → eachByte (hasSlot n) 9 w at ≡ Fine → Named (λ k. k < n) (map factorOf w)
 passed-named n [] at e = tt
 passed-named n (b ∷ w) at e = (
@@ -109,10 +72,6 @@ named-at n (b ∷ w) (suc i) h inside = named-at n w i h.1 (omega arith)
 pub slots-named : (n : ℕ) (r : List ℕ) → slotRule n r ≡ Fine → Named (λ k. k < n) (productOf r)
 unfolding slotRule
 slots-named n r e = passed-named n (wordOf r) 0 e
-
-pub slots-over : {A : Type 0} (G : Letters A) (L : LetterLaws G) (S : List (List A)) (r : List ℕ) → slotRule (length S) r ≡ Fine
-    → Over G S (productOf r)
-slots-over G L S r e = named-over G L S (productOf r) (slots-named (length S) r e)
 
 pub slot-inside : (n count i : ℕ) (r : List ℕ) → length r ≡ 64 → count ≤ 63 → take count r ≡ wordOf r → i < count → slotRule n r ≡ Fine
     → factorOf (getD r i 0) .slot < n

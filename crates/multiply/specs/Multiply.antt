@@ -3,14 +3,18 @@ use Prim.Native.Nat.{ℕ}
 use mathlib.Core.List.{List}
 use lib.ListN.{length}
 use lib.Dec.{leb}
-use Rattle.words.specs.Letters.{bytes}
+use Rattle.words.specs.Alphabet.{bytes}
 use Rattle.systems.specs.Products.{multiplied}
-use Rattle.records.specs.Records.{slots, systemOf, recordOf, written}
-use Rattle.records.specs.Answers.{outcomeOf, onFine}
-use Rattle.records.specs.Refusals.{must, systemRules, wordRoom, _andThen_}
+use Rattle.slots.specs.Systems.{slots, systemOf}
+use Rattle.records.specs.Records.{recordOf}
+use Rattle.words.specs.Buffers.{written}
+use Rattle.records.specs.Answers.{answerOf, onFine}
+use Rattle.records.specs.Refusals.{must, _andThen_, targetRules}
+use Rattle.slots.specs.Refusals.{systemRules, wordRoom}
 use Rattle.records.specs.declared.answers.Answer.{Answer}
 use Rattle.records.specs.declared.answers.Checked.{Checked}
-use Rattle.multiply.specs.Targets.{productOf, targetRules, slotRule}
+use Rattle.slots.specs.Factors.{productOf}
+use Rattle.multiply.specs.Targets.{slotRule}
 
 -- what a product over a system multiplies out to
 unfoldable pub productWord : List ℕ → List ℕ → List ℕ
@@ -25,7 +29,7 @@ unfoldable pub multiplyRules : List ℕ → List ℕ → ℕ → Checked
 multiplyRules s p room = multiplyTests s p room andThen must (leb (length (productWord s p)) 63) 12 0
 
 abbrev pub multiplyAnswer : List ℕ → List ℕ → List ℕ → Answer
-multiplyAnswer s p buffer = outcomeOf (multiplyRules s p (length buffer))
+multiplyAnswer s p buffer = answerOf (multiplyRules s p (length buffer))
 
 abbrev pub multiplyBuffer : List ℕ → List ℕ → List ℕ → List ℕ
 multiplyBuffer s p buffer = onFine (multiplyRules s p (length buffer)) (written (recordOf (productWord s p)) buffer) buffer

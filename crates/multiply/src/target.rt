@@ -1,25 +1,11 @@
 // A target or a product beside a system: refusals 6 and 9, and the slot that a letter names.
 ghost use mathlib.Core.Path.{_≡_};
 ghost use lib.ListN.{length};
-ghost use Rattle.multiply.specs.Targets.{factorOf, targetRules, slotRule};
+ghost use Rattle.slots.specs.Factors.{factorOf};
+ghost use Rattle.multiply.specs.Targets.{slotRule};
 use records::answers::Checked;
 use records::answers::refuse;
-use records::record::check_record;
 use records::record::word_length;
-
-// Refusal 6.
-pub fn check_target(target: &[u8]) -> Checked
-    ensures { λ r. ⌜ r ≡ targetRules (now (target .entry)) ⌝ }
-{
-    if target.len() != 64 {
-        return refuse(6, 0);
-    }
-    let checked = check_record(target, 0);
-    let Checked::Failed(refusal) = checked else {
-        return checked;
-    };
-    refuse(6, refusal.place)
-}
 
 // The slot that a letter of a product names.
 pub fn slot_of(b: u8) -> usize

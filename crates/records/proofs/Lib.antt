@@ -1,6 +1,6 @@
 -- Laws of the records and the refusals, which the proofs of several functions cite.
-pub mod Rows
+pub mod Filling
+pub mod Chains
 pub mod Rules
-pub mod Holding
-pub mod Systems
-pub mod Calls
+pub mod Targets
+pub mod RoundTrip

@@ -1,24 +1,25 @@
--- The tests of document 01 on rows of bytes, as loops make them: the answer of the whole is the answer from the present place on.
-use mathlib.Core.Path.{_≡_, refl, sym, ap, _∙_}
-use mathlib.Core.Bool.{Bool, true, false, not, true≢false}
-use mathlib.Core.List.{List, [], _∷_, _++_, append-nil, append-assoc}
-use Prim.Native.Nat.{ℕ, suc, _+_, _-_, _%_, _<_, _≤_}
-use native.Mathlib.Nat.{add-assoc, add-zero, le-of-eq, le-antisymm}
-use native.Mathlib.Omega.{arith}
-use borrow.Author.Tests.{lt-leb, le-leb, lt-ltb, le-ltb, not-true, not-false, eq-eqb, ne-eqb}
-use borrow.Author.Count.{below-more}
-use lib.Dec.{ltb}
+-- The tests of document 01 on lists of bytes, as loops make them: the answer of the whole is the answer from the present place on.
+use Prim.Native.Nat.{_%_, _+_, _-_, _<_, _≤_, suc, ℕ}
+use mathlib.Core.Bool.{Bool, false, not, true, true≢false}
+use mathlib.Core.List.{List, [], _++_, _∷_, append-assoc, append-nil}
+use mathlib.Core.Path.{_∙_, _≡_, ap, refl, sym}
 use native.Mathlib.Decide.{decLt}
-use lib.ListN.{length, getD, take, drop, length-drop, drop-of-length-le}
-use lib.Seq.{take-all, take-suc, length-take-le, getD-take}
+use native.Mathlib.Nat.{add-assoc, add-zero, le-antisymm, le-of-eq}
 use native.Mathlib.Numerals.{add-one}
-use Rattle.records.specs.Records.{isLetter, isLetterOrStop, isStop, notLetter, beforeStop, wordOf}
-use Rattle.records.specs.Refusals.{refusal, eachByte, byteRule, orderRule, recordRules, _andThen_}
-use Rattle.records.specs.Plain.{Plain, Blank}
-use Rattle.records.specs.declared.answers.Refusal.{Refusal}
+use native.Mathlib.Omega.{arith}
+use lib.Dec.{ltb}
+use lib.ListN.{drop, drop-of-length-le, getD, length, length-drop, take}
+use lib.Seq.{getD-take, length-take-le, take-all, take-suc}
+use borrow.Author.Count.{below-more}
+use borrow.Author.Tests.{eq-eqb, le-leb, le-ltb, lt-leb, lt-ltb, ne-eqb}
+use Rattle.words.proofs.Buffers.{drop-here}
+use Rattle.records.specs.Plain.{Blank, Plain}
+use Rattle.records.specs.Records.{beforeStop, isLetter, isLetterOrStop, isStop, notLetter, wordOf}
+use Rattle.records.specs.Refusals.{byteRule, eachByte, orderRule, recordRules, refusal}
 use Rattle.records.specs.declared.answers.Checked.{Checked}
-use Rattle.records.specs.declared.answers.Checked.the-variants.{Fine, Failed}
-use Rattle.records.proofs.Rows.{drop-here}
+use Rattle.records.specs.declared.answers.Checked.the-variants.{Failed, Fine}
+use Rattle.records.specs.declared.answers.Refusal.{Refusal}
+use Rattle.records.proofs.Chains.{then-failed, then-fine, told-true}
 
 -- a byte is a letter or not, by where it stands
 module _ (b : ℕ) where
@@ -43,11 +44,11 @@ module _ (b : ℕ) where
   pub stop-or-not : {t : Bool} → t ≡ isLetter b → t ≡ false → isStop b ≡ isLetterOrStop b
   stop-or-not e h = rw (← e, h)
 
--- one more byte of a row, at the place after it
+-- one more byte of a list, at the place after it
 next-place : (at i : ℕ) → at + i + 1 ≡ at + (i + 1)
 next-place at i = add-assoc at i 1
 
--- a test on each byte of a row, whose outcome at the present byte is t
+-- a test on each byte of a list, whose outcome at the present byte is t
 module _ (test : ℕ → Bool) (n : ℕ) (s : List ℕ) (at : ℕ) where
   pub bytes-begin : eachByte test n s at ≡ eachByte test n (drop 0 s) (at + 0)
   bytes-begin = rw add-zero
@@ -63,7 +64,7 @@ module _ (test : ℕ → Bool) (n : ℕ) (s : List ℕ) (at : ℕ) where
       pub bytes-pass : test (getD s i 0) ≡ true → eachByte test n s at ≡ eachByte test n (drop (i + 1) s) (at + (i + 1))
       bytes-pass good = rw (here, drop-here s i inside, good, next-place)
 
--- what is left of a row from a place on, as a part that is handed on
+-- what is left of a list from a place on, as a part that is handed on
 part-is-rest : (s : List ℕ) (k : ℕ) → take (length s - k) (drop k s) ≡ drop k s
 part-is-rest s k = take-all (length s - k) (drop k s) (le-of-eq (length-drop k s))
 
@@ -84,7 +85,7 @@ module _ (s : List ℕ) (at : ℕ) where
       pub order-letter : (getD s i 0 ≡ 46 → ⊥) → orderRule s at ≡ orderRule (drop (i + 1) s) (at + (i + 1))
       order-letter no-stop = rw (here, drop-here s i inside, ne-eqb _ _ no-stop, next-place)
 
--- a row with no full stop among its first n bytes
+-- a list with no full stop among its first n bytes
 all-letters : (n i : ℕ) (r : List ℕ) {w : List ℕ} → n ≤ i → i ≤ n → n ≤ length r
     → w ≡ take i r ++ beforeStop (drop i (take n r)) → take n r ≡ w
 all-letters n i r h l room e =
@@ -105,26 +106,6 @@ module _ (r : List ℕ) (i : ℕ) (here : wordOf r ≡ take i r ++ beforeStop (d
   pub word-full : 63 ≤ i → i ≤ 63 → take 63 r ≡ wordOf r
   word-full h l = all-letters 63 i r h l (omega arith) here
 
--- the outcome of a test that a callee made
-pub told-false : {t : Bool} {u : Bool} → t ≡ u → not t ≡ true → u ≡ false
-told-false {t} e h = sym e ∙ not-true t h
-
-pub told-true : {t : Bool} {u : Bool} → t ≡ u → not t ≡ false → u ≡ true
-told-true {t} e h = sym e ∙ not-false t h
-
-pub not-told-true : {t : Bool} {u : Bool} → t ≡ u → t ≡ true → not u ≡ false
-not-told-true e h = rw (← e, h)
-
-pub not-told-false : {t : Bool} {u : Bool} → t ≡ u → t ≡ false → not u ≡ true
-not-told-false e h = rw (← e, h)
-
--- a chain of tests: the first that fails decides, and where one is passed the rest does
-pub then-failed : {r : Checked} (c d : Checked) {f : Refusal} → r ≡ c → r ≡ Failed f → r ≡ c andThen d
-then-failed c d e h = rw (← e, h)
-
-pub then-fine : {q r : Checked} (c d : Checked) → q ≡ c → q ≡ Fine → r ≡ d → r ≡ c andThen d
-then-fine c d e h k = rw (← e, h, k)
-
 -- the rules on one record
 module _ (r : List ℕ) (at : ℕ) where
   pub record-end : {x : Checked} → (getD r 63 0 ≡ 10 → ⊥) → x ≡ refusal 3 (at + 63) → x ≡ recordRules r at
@@ -144,7 +125,7 @@ module _ (r : List ℕ) (at : ℕ) where
 letter-no-stop : (b : ℕ) → isLetter b ≡ true → b ≡ 46 → ⊥
 letter-no-stop b e h = true≢false (sym e ∙ ap isLetter h)
 
--- what is left of a row decides rules 4 and 5, wherever the row stands
+-- what is left of a list decides rules 4 and 5, wherever the list stands
 abbrev pub Resumes : List ℕ → ℕ → Type 0
 Resumes s i = (at : ℕ) → (byteRule s at ≡ byteRule (drop i s) (at + i)) × (orderRule s at ≡ orderRule (drop i s) (at + i))
 
@@ -167,7 +148,7 @@ pub resumes-end : (s : List ℕ) (i : ℕ) → Resumes s i → length s ≤ i �
 resumes-end s i here l at =
     (sym (bytes-end isLetterOrStop 4 s at i (here at .0) l), sym (order-end s at i (here at .1) l))
 
--- a row of full stops
+-- a list of full stops
 pub blank-stops : (s : List ℕ) → ((k : ℕ) → k < length s → getD s k 0 ≡ 46) → Blank s
 blank-stops [] all at = (refl, refl, refl)
 blank-stops (b ∷ s) all at =
@@ -180,9 +161,6 @@ stops-more s i all here = below-more (λ (k : ℕ). getD s k 0 ≡ 46) i all her
 
 pub blank-until : (s : List ℕ) (i : ℕ) → ((k : ℕ) → k < i → getD s k 0 ≡ 46) → length s ≤ i → Blank s
 blank-until s i all l = blank-stops s (λ k h. all k (omega arith))
-
-pub never : {P : Type 0} → false ≡ true → P
-never e = absurd (true≢false (sym e))
 
 pub record-plain : {r : Bool} (s : List ℕ) (at : ℕ) → getD s 63 0 ≡ 10 → (r ≡ true → Plain (take 63 s)) → r ≡ true → Fine ≡ recordRules s at
 unfolding recordRules

@@ -29,9 +29,9 @@ refusalPlace NotMember = 0
 refusalPlace (Refused f) = f .place
 
 -- the answer of a call that gives its verdict alone, from what its tests found
-abbrev pub outcomeOf : Checked → Answer
-outcomeOf Fine = record { verdict = Done }
-outcomeOf (Failed f) = record { verdict = Refused f }
+abbrev pub answerOf : Checked → Answer
+answerOf Fine = record { verdict = Done }
+answerOf (Failed f) = record { verdict = Refused f }
 
 -- a lent buffer after the call: the new bytes where no test failed, and "a refusal changes no lent byte"
 abbrev pub onFine : Checked → List ℕ → List ℕ → List ℕ

@@ -2,5 +2,3 @@ pub mod Records
 pub mod Answers
 pub mod Refusals
 pub mod Plain
-pub mod Held
-pub mod Calls

@@ -6,7 +6,7 @@ use Rattle.records.specs.Records.{notLetter}
 use Rattle.records.specs.Refusals.{eachByte, byteRule, orderRule}
 use Rattle.records.specs.declared.answers.Checked.the-variants.{Fine}
 
--- a row that breaks neither rule 4 nor rule 5, wherever it stands
+-- a list that breaks neither rule 4 nor rule 5, wherever it stands
 abbrev pub Plain : List ℕ → Type 0
 Plain r = (at : ℕ) → (byteRule r at ≡ Fine) × (orderRule r at ≡ Fine)
 

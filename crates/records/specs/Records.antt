@@ -1,9 +1,9 @@
 -- Records and systems of records, as lists of bytes: the words in them, and the bytes that hold given words.
-use Prim.Native.Nat.{ℕ, zero, suc, _-_, _*_, _/_}
-use mathlib.Core.Bool.{Bool, cond, not, _&&_, _||_}
-use mathlib.Core.List.{List, [], _∷_, _++_}
-use lib.ListN.{length, take, drop, replicate}
-use lib.Dec.{leb, eqb}
+use Prim.Native.Nat.{_-_, ℕ}
+use mathlib.Core.Bool.{Bool, _&&_, _||_, cond, not}
+use mathlib.Core.List.{List, [], _++_, _∷_}
+use lib.Dec.{eqb, leb}
+use lib.ListN.{length, replicate, take}
 
 -- "A generator is one of a to z; its inverse is the capital."
 abbrev pub isLetter : ℕ → Bool
@@ -19,7 +19,7 @@ isLetterOrStop b = isLetter b || isStop b
 abbrev pub notLetter : ℕ → Bool
 notLetter b = not (isLetter b)
 
--- a row of full stops
+-- a list of full stops
 abbrev pub blanks : ℕ → List ℕ
 blanks n = replicate n 46
 
@@ -35,29 +35,3 @@ beforeStop (b ∷ r) = cond (isStop b) [] (b ∷ beforeStop r)
 -- the word in a record; "A blank record has 63 full stops and is the empty word."
 abbrev pub wordOf : List ℕ → List ℕ
 wordOf r = beforeStop (take 63 r)
-
--- the record in a slot, the slots counted from 0
-abbrev pub recordAt : List ℕ → ℕ → List ℕ
-recordAt s k = take 64 (drop (k * 64) s)
-
--- the words in the first n slots
-abbrev pub wordsBelow : ℕ → List ℕ → List (List ℕ)
-wordsBelow zero s = []
-wordsBelow (suc n) s = wordsBelow n s ++ (wordOf (recordAt s n) ∷ [])
-
--- how many records a system has: "A system is 0 to 16 records with no header."
-abbrev pub slots : List ℕ → ℕ
-slots s = length s / 64
-
--- the words of a system, one for each slot
-abbrev pub systemOf : List ℕ → List (List ℕ)
-systemOf s = wordsBelow (slots s) s
-
--- "each word is written into the 64 bytes of its own slot, blank ones too"
-abbrev pub bytesOf : List (List ℕ) → List ℕ
-bytesOf [] = []
-bytesOf (w ∷ ws) = recordOf w ++ bytesOf ws
-
--- a lent buffer after some bytes were written at its beginning: "Bytes after the last one written stay unchanged."
-abbrev pub written : List ℕ → List ℕ → List ℕ
-written bytes buffer = bytes ++ drop (length bytes) buffer

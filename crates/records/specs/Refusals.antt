@@ -1,12 +1,12 @@
--- Why a call is turned down: the refusals of document 01 on systems, "tested in this order; the first refusal found ends the call at once".
-use Prim.Native.Nat.{ℕ, zero, suc, _+_, _*_, _%_}
-use mathlib.Core.Bool.{Bool, true, false, cond}
+-- Why a call is refused: the refusals of document 01 on systems, "tested in this order; the first refusal found ends the call at once".
+use Prim.Native.Nat.{_+_, suc, zero, ℕ}
+use mathlib.Core.Bool.{Bool, cond, false, true}
 use mathlib.Core.List.{List, [], _∷_}
-use lib.ListN.{length, getD, take}
-use lib.Dec.{leb, eqb}
-use Rattle.records.specs.Records.{isLetterOrStop, notLetter, isStop, slots, recordAt}
+use lib.Dec.{eqb}
+use lib.ListN.{getD, length, take}
+use Rattle.records.specs.Records.{isLetterOrStop, isStop, notLetter}
 use Rattle.records.specs.declared.answers.Checked.{Checked}
-use Rattle.records.specs.declared.answers.Checked.the-variants.{Fine, Failed}
+use Rattle.records.specs.declared.answers.Checked.the-variants.{Failed, Fine}
 
 -- a refusal with its number and its place
 abbrev pub refusal : ℕ → ℕ → Checked
@@ -20,14 +20,19 @@ must false n at = refusal n at
 -- the first test that fails
 infixr 20 _andThen_
 abbrev pub _andThen_ : Checked → Checked → Checked
-Fine andThen next = next
-Failed f andThen next = Failed f
+Fine andThen rest = rest
+Failed f andThen rest = Failed f
+
+-- the first of check 0, check 1, .. below n that fails
+abbrev pub eachBelow : (ℕ → Checked) → ℕ → Checked
+eachBelow check zero = Fine
+eachBelow check (suc n) = eachBelow check n andThen check n
 
 -- 3. "A record's byte 63 is not a line feed."
 abbrev pub endRule : List ℕ → ℕ → Checked
 endRule r at = must (eqb (getD r 63 0) 10) 3 (at + 63)
 
--- each byte of a row must pass a test, or else the refusal with this number at the first that does not
+-- each byte of a list must pass a test, or else the refusal with this number at the first that does not
 abbrev pub eachByte : (ℕ → Bool) → ℕ → List ℕ → ℕ → Checked
 eachByte test n [] at = Fine
 eachByte test n (b ∷ r) at = must (test b) n at andThen eachByte test n r (at + 1)
@@ -45,15 +50,11 @@ orderRule (b ∷ r) at = cond (isStop b) (eachByte notLetter 5 r (at + 1)) (orde
 unfoldable pub recordRules : List ℕ → ℕ → Checked
 recordRules r at = endRule r at andThen byteRule (take 63 r) at andThen orderRule (take 63 r) at
 
--- "Rules 3 to 5 are tried record by record": the first n records
-abbrev pub eachRecord : ℕ → List ℕ → Checked
-eachRecord zero s = Fine
-eachRecord (suc n) s = eachRecord n s andThen recordRules (recordAt s n) (n * 64)
+-- a refusal of a record, as refusal 6
+abbrev pub asSix : Checked → Checked
+asSix Fine = Fine
+asSix (Failed f) = refusal 6 (f .place)
 
--- 1. "The system's length is not a multiple of 64." 2. "The system has more than 16 records." Then 3 to 5.
-unfoldable pub systemRules : List ℕ → Checked
-systemRules s = must (eqb (length s % 64) 0) 1 0 andThen must (leb (slots s) 16) 2 0 andThen eachRecord (slots s) s
-
--- 10. "The buffer for words is shorter than the output (64 times the records; 64 for multiply)."
-unfoldable pub wordRoom : ℕ → ℕ → Checked
-wordRoom output room = must (leb output room) 10 0
+-- 6. "The target or product is not 64 bytes long or breaks rule 3, 4 or 5."
+unfoldable pub targetRules : List ℕ → Checked
+targetRules r = must (eqb (length r) 64) 6 0 andThen asSix (recordRules r 0)

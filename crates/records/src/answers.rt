@@ -1,7 +1,6 @@
 // What a call answers: a verdict, and with a refusal its number and its place.
 ghost use mathlib.Core.Path.{_≡_};
-ghost use Prim.Native.Nat.{ℕ};
-ghost use Rattle.records.specs.Answers.{outcomeOf};
+ghost use Rattle.records.specs.Answers.{answerOf};
 ghost use Rattle.records.specs.Refusals.{must};
 
 // A refusal of document 01: its number, and the place that it names.
@@ -48,8 +47,8 @@ pub fn check_that(holds: bool, number: u8) -> Checked
 }
 
 // The answer of a call that gives nothing but its verdict, from what its tests found.
-pub fn outcome(checked: Checked) -> Answer
-    ensures { λ r. ⌜ r ≡ outcomeOf checked ⌝ }
+pub fn answer_of(checked: Checked) -> Answer
+    ensures { λ r. ⌜ r ≡ answerOf checked ⌝ }
 {
     match checked {
         Checked::Fine => Answer {

@@ -1,13 +1,15 @@
 // One record of 64 bytes: its layout, the word in it, and a word written as its record.
-ghost use mathlib.Core.Path.{_≡_};
-ghost use mathlib.Core.Bool.{true};
 ghost use Prim.Native.Nat.{_≤_};
+ghost use mathlib.Core.Bool.{true};
+ghost use mathlib.Core.Path.{_≡_};
 ghost use lib.ListN.{length, take};
-ghost use Rattle.records.specs.Records.{isLetter, isLetterOrStop, notLetter, wordOf, recordOf, written, blanks};
-ghost use Rattle.records.specs.Refusals.{eachByte, orderRule, recordRules};
-ghost use Rattle.records.specs.Plain.{Plain, Blank};
+ghost use Rattle.words.specs.Alphabet.{bytes};
+ghost use Rattle.records.specs.Plain.{Blank, Plain};
+ghost use Rattle.records.specs.Records.{blanks, isLetter, isLetterOrStop, notLetter, recordOf, wordOf};
+ghost use Rattle.records.specs.Refusals.{eachByte, orderRule, recordRules, targetRules};
 use crate::answers::Checked;
 use crate::answers::refuse;
+use words::letters::copy;
 
 // The bytes of a record, and of one slot of a system.
 pub const RECORD: usize = 64;
@@ -58,7 +60,21 @@ pub fn check_record(bytes: &[u8], at: usize) -> Checked
     check_order(letters, at)
 }
 
-// Whether a row is letters and then full stops: the quick way through a record that breaks no rule.
+// Refusal 6.
+pub fn check_target(target: &[u8]) -> Checked
+    ensures { λ r. ⌜ r ≡ targetRules (now (target .entry)) ⌝ }
+{
+    if target.len() != 64 {
+        return refuse(6, 0);
+    }
+    let checked = check_record(target, 0);
+    let Checked::Failed(refusal) = checked else {
+        return checked;
+    };
+    refuse(6, refusal.place)
+}
+
+// Whether a list is letters and then full stops: the quick way through a record that breaks no rule.
 fn is_plain(letters: &[u8]) -> bool
     ensures { λ r. ⌜ (r ≡ true → Plain (now (letters .entry))) ⌝ }
 {
@@ -73,7 +89,7 @@ fn is_plain(letters: &[u8]) -> bool
     true
 }
 
-// Whether a row is full stops alone.
+// Whether a list is full stops alone.
 fn is_blank(bytes: &[u8]) -> bool
     ensures { λ r. ⌜ (r ≡ true → Blank (now (bytes .entry))) ⌝ }
 {
@@ -174,18 +190,6 @@ fn fill_stops(out: &mut [u8])
     let mut i = 0;
     while i < out.len() {
         out[i] = STOP;
-        i += 1;
-    }
-}
-
-// Copies a word to the beginning of a buffer.
-pub fn copy(word: &[u8], out: &mut [u8])
-    requires { ⌜ length (now word) ≤ length (now out) ⌝ }
-    ensures { λ _. ⌜ now (out .exit) ≡ written (now (word .entry)) (now (out .entry)) ⌝ }
-{
-    let mut i = 0;
-    while i < word.len() {
-        out[i] = word[i];
         i += 1;
     }
 }

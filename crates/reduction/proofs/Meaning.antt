@@ -1,44 +1,48 @@
 -- What the answers of reduce and test mean: their exact definitions, taken with the laws of runs, say what the owner demands of them.
 -- A run that comes to its end leaves short words of letters, which are read back from the bytes written, and replay takes its log both ways.
-use Prim.Native.Nat.{ℕ, _*_, _≤_}
-use mathlib.Core.Path.{_≡_, refl, sym, ap, _∙_}
-use mathlib.Core.Logic.{_↔_}
-use mathlib.Core.Bool.{true, false}
-use mathlib.Core.Option.{Option, none, some}
+use Prim.Native.Nat.{_*_, _≤_, ℕ}
+use mathlib.Core.Bool.{false, true}
 use mathlib.Core.List.{List, map}
+use mathlib.Core.Logic.{_↔_}
+use mathlib.Core.Option.{Option, none, some}
+use mathlib.Core.Path.{_∙_, _≡_, ap, refl, sym}
 use native.Mathlib.Omega.{arith}
-use borrow.Author.Tests.{eqb-true, eq-eqb, le-leb}
-use lib.ListN.{length, take, length-map}
-use Rattle.words.specs.Letters.{bytes}
-use Rattle.words.specs.Words.{reduce}
-use Rattle.words.proofs.Letters.{byteLaws, flipByte-moves}
+use lib.ListN.{length, length-map, take}
+use borrow.Author.Tests.{eq-eqb, eqb-true}
+use Rattle.words.specs.Alphabet.{bytes}
+use Rattle.words.specs.Buffers.{written}
+use Rattle.words.specs.Words.{freelyReduce}
+use Rattle.words.proofs.Alphabet.{byteLaws, flipByte-noOwnInverse}
+use Rattle.words.proofs.Buffers.{written-take}
 use Rattle.systems.specs.Moves.{Move, madeAll, undoneAll}
-use Rattle.systems.specs.Products.{Tidy, Equivalent, IndependentWords}
-use Rattle.systems.specs.Reduced.{Reduced}
-use Rattle.systems.specs.Rules.{next, movesWithin, runWithin}
+use Rattle.systems.specs.Products.{Equivalent, FreelyReduced, IndependentWords}
 use Rattle.systems.specs.Rank.{rank}
-use Rattle.systems.proofs.Equivalence.{tidy-reduced}
-use Rattle.systems.proofs.Neither.{next-none, moves-again, run-length, run-ended, run-tidy, run-valid}
+use Rattle.systems.specs.Reduced.{Reduced}
+use Rattle.systems.specs.Rules.{movesWithin, next, runWithin}
 use Rattle.systems.proofs.Ending.{every-run-ends}
-use Rattle.systems.proofs.Runs.{reduced, equivalent, independence-words, backward, forward-within, forward-way-within, backward-way-within}
-use Rattle.records.specs.Records.{slots, systemOf, bytesOf, written}
-use Rattle.records.specs.Refusals.{systemRules, wordRoom}
+use Rattle.systems.proofs.Equivalence.{tidy-reduced}
+use Rattle.systems.proofs.Neither.{moves-again, next-none, run-ended, run-freelyReduced, run-length, run-valid}
+use Rattle.systems.proofs.Runs.{backward, backward-way-within, equivalent, forward-way-within, forward-within, independence-words, reduced}
 use Rattle.records.specs.Answers.{onFine}
-use Rattle.records.specs.Calls.{reducedWords}
 use Rattle.records.specs.declared.answers.Checked.{Checked}
-use Rattle.records.specs.declared.answers.Checked.the-variants.{Fine, Failed}
+use Rattle.records.specs.declared.answers.Checked.the-variants.{Failed, Fine}
+use Rattle.records.specs.declared.answers.Verdict.{Verdict}
 use Rattle.records.specs.declared.answers.Verdict.the-variants.{Done}
-use Rattle.records.proofs.Calls.{fine-first, fine-next, must-fine, system-few}
-use Rattle.moves.specs.Logs.{moveSize, logOf, logRules}
-use Rattle.moves.proofs.Logging.{AllBetween, logOf-length, logOf-moves, logOf-passes, valid-between}
-use Rattle.replay.specs.Replay.{forwardRules, backwardRules, replayRules}
-use Rattle.replay.proofs.Calls.{loaded-tidy}
-use Rattle.replay.proofs.Accepting.{AllShort, between-inside, forward-accepts, backward-accepts, replay-accepts}
+use Rattle.records.proofs.Chains.{answered, fine-first, fine-next, must-fine}
+use Rattle.slots.specs.Refusals.{systemRoom, systemRules}
+use Rattle.slots.specs.Systems.{bytesOf, freelyReducedWords, slots, systemOf}
+use Rattle.slots.proofs.RoundTrip.{AllShort, LetterWords, bytesOf-length, bytesOf-slots, reduced-letters, reduced-short, system-back, system-length, system-passes}
+use Rattle.slots.proofs.Systems.{loaded-freelyReduced, room-fits, system-few}
+use Rattle.moves.specs.Logs.{logOf, logRules, moveSize}
+use Rattle.moves.proofs.LogBack.{AllBetween, logOf-length, logOf-moves, logOf-passes, valid-between}
+use Rattle.replay.specs.Replay.{backwardRules, forwardRules, replayRules}
+use Rattle.replay.proofs.Accepting.{backward-accepts, between-inside, forward-accepts, replay-accepts}
+use Rattle.runs.specs.Runs.{isNone, roomFor, stopped}
+use Rattle.reduction.specs.Meaning.{EnoughMoves, ReduceMeans, Reduces, TestMeans}
+use Rattle.reduction.specs.Reduction.{logAfter, reduceAnswer, reduceLog, reduceTests, reduceWords, reductionOf, runTests, sameRank, testAnswer, testedOf, wordsAfter}
 use Rattle.reduction.specs.declared.answers.Reduction.{Reduction}
 use Rattle.reduction.specs.declared.answers.Tested.{Tested}
-use Rattle.reduction.specs.Reduction.{isNone, stopped, roomFor, reduceTests, reduceRules, reductionOf, reduceAnswer, reduceWords, reduceLog, sameRank, testedOf, testAnswer}
-use Rattle.reduction.specs.Meaning.{EnoughMoves, Reduces, ReduceMeans, TestMeans}
-use Rattle.reduction.proofs.RoundTrip.{LetterWords, letters-madeAll, reduced-letters, reduced-short, system-length, bytesOf-length, bytesOf-slots, system-back, system-passes, written-take}
+use Rattle.reduction.proofs.RoundTrip.{letters-madeAll}
 
 -- neither rule applies exactly where the search for a move finds none
 none-yes : (o : Option Move) → isNone o ≡ true → o ≡ none
@@ -51,13 +55,10 @@ stopped-none S e = none-yes (next bytes S) e
 pub none-stopped : (S : List (List ℕ)) → next bytes S ≡ none → stopped S ≡ true
 none-stopped S e = ap isNone e
 
--- the words over which reduce and test run are freely reduced, one for each slot
-pub words-tidy : (s : List ℕ) → Tidy bytes (reducedWords s)
-words-tidy s = loaded-tidy s (reducedWords s) refl
-
-pub words-length : (s : List ℕ) → length (reducedWords s) ≡ slots s
-unfolding reducedWords
-words-length s = length-map (systemOf s) (reduce bytes) ∙ system-length s
+-- one word for each slot
+pub words-length : (s : List ℕ) → length (freelyReducedWords s) ≡ slots s
+unfolding freelyReducedWords
+words-length s = length-map (systemOf s) (freelyReduce bytes) ∙ system-length s
 
 -- test: a call that is done has passed its tests
 tested-fine : (c : Checked) (S : List (List ℕ)) → testedOf c S .verdict ≡ Done → c ≡ Fine
@@ -65,37 +66,37 @@ tested-fine Fine S e = refl
 tested-fine (Failed f) S e = let z : _≡_ {A = ℕ} 0 1 = cc in absurd (omega arith)
 
 -- "neither rule applies" exactly to the freely reduced words that are reduced
-tested-means : (s : List ℕ) → (stopped (reducedWords s) ≡ true) ↔ Reduced bytes (reducedWords s)
+tested-means : (s : List ℕ) → (stopped (freelyReducedWords s) ≡ true) ↔ Reduced bytes (freelyReducedWords s)
 tested-means s =
-    let law = next-none bytes byteLaws flipByte-moves (reducedWords s) (words-tidy s) in
-    (λ e. law .0 (stopped-none (reducedWords s) e), λ r. none-stopped (reducedWords s) (law .1 r))
+    let law = next-none bytes byteLaws flipByte-noOwnInverse (freelyReducedWords s) (loaded-freelyReduced s) in
+    (λ e. law .0 (stopped-none (freelyReducedWords s) e), λ r. none-stopped (freelyReducedWords s) (law .1 r))
 
 -- the answer of test, and so every answer equal to it, says yes exactly where the freely reduced words are reduced
 pub test-means : (s : List ℕ) (a : Tested) → a ≡ testAnswer s → TestMeans s a
 test-means s a e done =
-    let passed : systemRules s ≡ Fine = tested-fine (systemRules s) (reducedWords s) (rw e at done) in
-    let told : a .reduced ≡ stopped (reducedWords s) = ap (λ (t : Tested). t .reduced) (e ∙ ap (λ (c : Checked). testedOf c (reducedWords s)) passed) in
+    let passed : systemRules s ≡ Fine = tested-fine (systemRules s) (freelyReducedWords s) (rw e at done) in
+    let told : a .reduced ≡ stopped (freelyReducedWords s) = ap (λ (t : Tested). t .reduced) (e ∙ ap (λ (c : Checked). testedOf c (freelyReducedWords s)) passed) in
     (λ h. tested-means s .0 (sym told ∙ h), λ r. told ∙ tested-means s .1 r)
 
 -- the moves of a run over the words of a system, with room for so many, and the words that they leave
 abbrev pub runMoves : List ℕ → ℕ → List Move
-runMoves s n = movesWithin bytes n (reducedWords s)
+runMoves s n = movesWithin bytes n (freelyReducedWords s)
 
 abbrev pub runWords : List ℕ → ℕ → List (List ℕ)
-runWords s n = runWithin bytes n (reducedWords s)
+runWords s n = runWithin bytes n (freelyReducedWords s)
 
 -- what a run leaves: short words, freely reduced
 module _ (s : List ℕ) (n : ℕ) where
   pub left-short : AllShort (runWords s n)
-  unfolding reducedWords
+  unfolding freelyReducedWords
   left-short = forward-within bytes byteLaws n (systemOf s) 63 (reduced-short s)
 
-  pub left-tidy : Tidy bytes (runWords s n)
-  left-tidy = run-tidy bytes byteLaws n (reducedWords s) (words-tidy s)
+  pub left-freelyReduced : FreelyReduced bytes (runWords s n)
+  left-freelyReduced = run-freelyReduced bytes byteLaws n (freelyReducedWords s) (loaded-freelyReduced s)
 
   -- a run keeps the number of slots
   pub left-length : length (runWords s n) ≡ slots s
-  left-length = run-length bytes n (reducedWords s) ∙ words-length s
+  left-length = run-length bytes n (freelyReducedWords s) ∙ words-length s
 
   pub left-slots : slots (bytesOf (runWords s n)) ≡ slots s
   left-slots = bytesOf-slots (runWords s n) left-short ∙ left-length
@@ -104,59 +105,59 @@ module _ (s : List ℕ) (n : ℕ) where
   left-bytes = bytesOf-length (runWords s n) left-short ∙ ap (λ (k : ℕ). k * 64) left-length
 
   -- its moves lie between slots of the system, so their log passes the tests of a log
-  moves-between : AllBetween (length (reducedWords s)) (runMoves s n)
-  moves-between = valid-between (reducedWords s) (runMoves s n) (run-valid bytes byteLaws n (reducedWords s) (words-tidy s))
+  moves-between : AllBetween (length (freelyReducedWords s)) (runMoves s n)
+  moves-between = valid-between (freelyReducedWords s) (runMoves s n) (run-valid bytes byteLaws n (freelyReducedWords s) (loaded-freelyReduced s))
 
   log-passes : logRules (slots s) (logOf (runMoves s n)) ≡ Fine
   log-passes = logOf-passes (slots s) (runMoves s n) (rw (words-length s) at moves-between)
 
   -- no word on the way is too long, forward or backward
-  forward-runs : forwardRules (reducedWords s) (runMoves s n) 1 ≡ Fine
-  unfolding reducedWords
-  forward-runs = forward-accepts (reducedWords s) (runMoves s n) 1 (between-inside (length (reducedWords s)) (runMoves s n) moves-between)
+  forward-runs : forwardRules (freelyReducedWords s) (runMoves s n) 1 ≡ Fine
+  unfolding freelyReducedWords
+  forward-runs = forward-accepts (freelyReducedWords s) (runMoves s n) 1 (between-inside (length (freelyReducedWords s)) (runMoves s n) moves-between)
       (λ i. forward-way-within bytes byteLaws n (systemOf s) 63 i (reduced-short s))
 
   backward-runs : backwardRules (runWords s n) (runMoves s n) 1 ≡ Fine
-  unfolding reducedWords
+  unfolding freelyReducedWords
   backward-runs = backward-accepts (runWords s n) (runMoves s n) 1
-      (rw (run-length bytes n (reducedWords s)) (between-inside (length (reducedWords s)) (runMoves s n) moves-between))
+      (rw (run-length bytes n (freelyReducedWords s)) (between-inside (length (freelyReducedWords s)) (runMoves s n) moves-between))
       (λ i. backward-way-within bytes byteLaws n (systemOf s) 63 i (reduced-short s))
 
   -- and backward it comes to the given words, freely reduced
-  backward-gives : undoneAll bytes (runWords s n) (runMoves s n) ≡ reducedWords s
-  unfolding reducedWords
+  backward-gives : undoneAll bytes (runWords s n) (runMoves s n) ≡ freelyReducedWords s
+  unfolding freelyReducedWords
   backward-gives = backward bytes byteLaws n (systemOf s)
 
   -- the words left generate the same words as the given ones
   pub left-equivalent : Equivalent bytes (systemOf s) (runWords s n)
-  unfolding reducedWords
+  unfolding freelyReducedWords
   left-equivalent = equivalent bytes byteLaws n (systemOf s)
 
   -- where the run has come to its end, they are reduced, and their number tells whether the given words are independent
   module _ (ended : next bytes (runWords s n) ≡ none) where
     pub left-reduced : Reduced bytes (runWords s n)
-    unfolding reducedWords
-    left-reduced = reduced bytes byteLaws flipByte-moves n (systemOf s) ended
+    unfolding freelyReducedWords
+    left-reduced = reduced bytes byteLaws flipByte-noOwnInverse n (systemOf s) ended
 
-    pub left-independent : (sameRank (reducedWords s) (runWords s n) ≡ true) ↔ IndependentWords bytes (systemOf s)
-    unfolding reducedWords
+    pub left-independent : (sameRank (freelyReducedWords s) (runWords s n) ≡ true) ↔ IndependentWords bytes (systemOf s)
+    unfolding freelyReducedWords
     left-independent =
-        let law = independence-words bytes byteLaws flipByte-moves n (systemOf s) ended in
+        let law = independence-words bytes byteLaws flipByte-noOwnInverse n (systemOf s) ended in
         (λ e. law .0 (eqb-true _ _ e), λ i. eq-eqb _ _ (law .1 i))
 
 -- a run over a system that passes its tests
 module _ (s : List ℕ) (n : ℕ) (system : systemRules s ≡ Fine) where
   -- it leaves words of letters
   pub left-letters : LetterWords (runWords s n)
-  left-letters = letters-madeAll (reducedWords s) (runMoves s n) (reduced-letters s system)
+  left-letters = letters-madeAll (freelyReducedWords s) (runMoves s n) (reduced-letters s system)
 
   -- the words that it leaves come back from their bytes, and are freely reduced already
   pub left-back : systemOf (bytesOf (runWords s n)) ≡ runWords s n
   left-back = system-back (runWords s n) left-letters (left-short s n)
 
-  pub left-words : reducedWords (bytesOf (runWords s n)) ≡ runWords s n
-  unfolding reducedWords
-  left-words = ap (map (reduce bytes)) left-back ∙ tidy-reduced bytes byteLaws (runWords s n) (left-tidy s n)
+  pub left-words : freelyReducedWords (bytesOf (runWords s n)) ≡ runWords s n
+  unfolding freelyReducedWords
+  left-words = ap (map (freelyReduce bytes)) left-back ∙ tidy-reduced bytes byteLaws (runWords s n) (left-freelyReduced s n)
 
   -- and those bytes pass the tests of a system
   pub left-passes : systemRules (bytesOf (runWords s n)) ≡ Fine
@@ -173,15 +174,15 @@ module _ (s : List ℕ) (n : ℕ) (system : systemRules s ≡ Fine) where
       (rw (left-slots s n) h) (rw (logOf-moves (runMoves s n), left-words) (backward-runs s n))
 
   -- the bytes written of a run that has come to its end are what reduce must give
-  run-reduces : next bytes (runWords s n) ≡ none
-      → Reduces s (bytesOf (runWords s n)) (logOf (runMoves s n)) (reductionOf Fine (reducedWords s) n)
-  run-reduces ended =
+  run-reduces : (v : Verdict) → next bytes (runWords s n) ≡ none
+      → Reduces s (bytesOf (runWords s n)) (logOf (runMoves s n)) (reductionOf Fine v (freelyReducedWords s) n)
+  run-reduces v ended =
       record {
         wellFormed = left-passes;
-        tidy = rw left-back (left-tidy s n);
+        freelyReduced = rw left-back (left-freelyReduced s n);
         reduced = rw left-back (left-reduced s n ended);
-        moves = logOf-moves (runMoves s n) ∙ sym (moves-again bytes n (reducedWords s));
-        noMoreMoves = ap (λ (ms : List Move). next bytes (madeAll bytes (reducedWords s) ms)) (moves-again bytes n (reducedWords s)) ∙ ended;
+        moves = logOf-moves (runMoves s n) ∙ sym (moves-again bytes n (freelyReducedWords s));
+        noMoreMoves = ap (λ (ms : List Move). next bytes (madeAll bytes (freelyReducedWords s) ms)) (moves-again bytes n (freelyReducedWords s)) ∙ ended;
         count = ap length (sym (logOf-moves (runMoves s n)));
         equivalent = rw left-back (left-equivalent s n);
         rank = ap rank (sym left-back);
@@ -192,62 +193,68 @@ module _ (s : List ℕ) (n : ℕ) (system : systemRules s ≡ Fine) where
         backwardGives = rw (logOf-moves (runMoves s n), left-words) (backward-gives s n);
       }
 
--- reduce: a call that is done has passed its tests, the last of which is that the run came to its end
-reduction-fine : (c : Checked) (S : List (List ℕ)) (n : ℕ) → reductionOf c S n .verdict ≡ Done → c ≡ Fine
-reduction-fine Fine S n e = refl
-reduction-fine (Failed f) S n e = let z : _≡_ {A = ℕ} 0 1 = cc in absurd (omega arith)
+-- a call that ran over the words of a system, as reduce and member do, and passed its tests and 13
+module _ (s log : List ℕ) (tests : Checked) (passed : runTests tests (freelyReducedWords s) (roomFor log) ≡ Fine) where
+  pub ran-tests : tests ≡ Fine
+  ran-tests = fine-first tests _ passed
 
-module _ (s : List ℕ) (room n : ℕ) (passed : reduceRules s room n ≡ Fine) where
-  pub rules-tests : reduceTests s room ≡ Fine
-  unfolding reduceRules
-  rules-tests = fine-first (reduceTests s room) _ passed
+  pub ran-ended : next bytes (runWords s (roomFor log)) ≡ none
+  ran-ended = stopped-none (runWords s (roomFor log)) (must-fine _ 13 0 (fine-next tests _ passed))
 
-  pub rules-system : systemRules s ≡ Fine
-  unfolding reduceTests
-  rules-system = fine-first (systemRules s) _ rules-tests
+  -- what it wrote
+  pub ran-words : (words words′ : List ℕ) → words′ ≡ wordsAfter tests (freelyReducedWords s) (roomFor log) words
+      → take (slots s * 64) words′ ≡ bytesOf (runWords s (roomFor log))
+  ran-words words words′ wrote =
+      let new : words′ ≡ written (bytesOf (runWords s (roomFor log))) words =
+      wrote ∙ ap (λ (c : Checked). onFine c (written (bytesOf (runWords s (roomFor log))) words) words) passed in
+      ap (take (slots s * 64)) new ∙ written-take (bytesOf (runWords s (roomFor log))) words (slots s * 64) (left-bytes s (roomFor log))
 
-  pub rules-ended : next bytes (runWords s n) ≡ none
-  unfolding reduceRules
-  rules-ended = stopped-none (runWords s n) (must-fine _ 13 0 (fine-next (reduceTests s room) _ passed))
+  ran-log : (log′ : List ℕ) → log′ ≡ logAfter tests (freelyReducedWords s) (roomFor log) log
+      → take (length (runMoves s (roomFor log)) * moveSize) log′ ≡ logOf (runMoves s (roomFor log))
+  ran-log log′ logged =
+      let new : log′ ≡ written (logOf (runMoves s (roomFor log))) log =
+      logged ∙ ap (λ (c : Checked). onFine c (written (logOf (runMoves s (roomFor log))) log) log) ran-tests in
+      ap (take (length (runMoves s (roomFor log)) * moveSize)) new ∙ written-take (logOf (runMoves s (roomFor log))) log _ (logOf-length (runMoves s (roomFor log)))
 
--- a system whose words and moves have room passes
-room-passes : (s words log : List ℕ) (enough : ℕ) → systemRules s ≡ Fine → slots s * 64 ≤ length words → EnoughMoves s enough
-    → enough * moveSize ≤ length log → reduceRules s (length words) (roomFor log) ≡ Fine
-unfolding reduceRules reduceTests wordRoom
-room-passes s words log enough system fits ended room =
+  -- is what reduce must give, whatever the verdict
+  pub ran-reduces : systemRules s ≡ Fine → (v : Verdict) (a : Reduction) (words words′ log′ : List ℕ)
+      → a ≡ reductionOf (runTests tests (freelyReducedWords s) (roomFor log)) v (freelyReducedWords s) (roomFor log)
+      → words′ ≡ wordsAfter tests (freelyReducedWords s) (roomFor log) words → log′ ≡ logAfter tests (freelyReducedWords s) (roomFor log) log
+      → Reduces s (take (slots s * 64) words′) (take (a .moves * moveSize) log′) a
+  ran-reduces system v a words words′ log′ answered wrote logged =
+      let told : a ≡ reductionOf Fine v (freelyReducedWords s) (roomFor log) =
+      answered ∙ ap (λ (c : Checked). reductionOf c v (freelyReducedWords s) (roomFor log)) passed in
+      rw (told, ran-words words words′ wrote, ran-log log′ logged) (run-reduces s (roomFor log) system v ran-ended)
+
+-- it passes where its tests do and the moves have room
+pub enough-passes : (s log : List ℕ) (tests : Checked) (enough : ℕ) → tests ≡ Fine → EnoughMoves s enough → enough * moveSize ≤ length log
+    → runTests tests (freelyReducedWords s) (roomFor log) ≡ Fine
+enough-passes s log tests enough fine ended room =
     let few : enough ≤ roomFor log = omega arith in
     let stop : stopped (runWords s (roomFor log)) ≡ true =
-    none-stopped (runWords s (roomFor log)) (ap (next bytes) (run-ended bytes enough (roomFor log) (reducedWords s) ended few) ∙ ended) in
-    rw (system, le-leb (slots s * 64) (length words) fits, stop)
+    none-stopped (runWords s (roomFor log)) (ap (next bytes) (run-ended bytes enough (roomFor log) (freelyReducedWords s) ended few) ∙ ended) in
+    rw (fine, stop)
 
--- what reduce wrote when it is done
-done-reduces : (s words log : List ℕ) (a : Reduction) (words′ log′ : List ℕ) → a ≡ reduceAnswer s words log
-    → words′ ≡ reduceWords s words log → log′ ≡ reduceLog s words log
-    → a .verdict ≡ Done → Reduces s (take (slots s * 64) words′) (take (a .moves * moveSize) log′) a
-done-reduces s words log a words′ log′ answered wrote logged done =
-    let n : ℕ = roomFor log in
-    let passed : reduceRules s (length words) n ≡ Fine = reduction-fine (reduceRules s (length words) n) (reducedWords s) n (rw answered at done) in
-    let system : systemRules s ≡ Fine = rules-system s (length words) n passed in
-    let told : a ≡ reductionOf Fine (reducedWords s) n = answered ∙ ap (λ (c : Checked). reductionOf c (reducedWords s) n) passed in
-    let new : words′ ≡ written (bytesOf (runWords s n)) words =
-    wrote ∙ ap (λ (c : Checked). onFine c (written (bytesOf (runWords s n)) words) words) passed in
-    let kept : log′ ≡ written (logOf (runMoves s n)) log =
-    logged ∙ ap (λ (c : Checked). onFine c (written (logOf (runMoves s n)) log) log) (rules-tests s (length words) n passed) in
-    let words-are : take (slots s * 64) words′ ≡ bytesOf (runWords s n) =
-    ap (take (slots s * 64)) new ∙ written-take (bytesOf (runWords s n)) words (slots s * 64) (left-bytes s n) in
-    let log-is : take (length (runMoves s n) * moveSize) log′ ≡ logOf (runMoves s n) =
-    ap (take (length (runMoves s n) * moveSize)) kept ∙ written-take (logOf (runMoves s n)) log _ (logOf-length (runMoves s n)) in
-    rw (told, words-are, log-is) (run-reduces s n system (rules-ended s (length words) n passed))
+-- reduce: a call that is done has passed its tests
+reduction-fine : (c : Checked) (S : List (List ℕ)) (n : ℕ) → reductionOf c Done S n .verdict ≡ Done → c ≡ Fine
+reduction-fine Fine S n e = refl
+reduction-fine (Failed f) S n e = let z : _≡_ {A = ℕ} 0 1 = cc in absurd (omega arith)
 
 -- the answer of reduce and what it wrote into the two buffers mean what the owner demands
 pub reduce-means : (s words log : List ℕ) (a : Reduction) (words′ log′ : List ℕ) → a ≡ reduceAnswer s words log
     → words′ ≡ reduceWords s words log → log′ ≡ reduceLog s words log → ReduceMeans s words log a words′ log′
+unfolding systemRoom
 reduce-means s words log a words′ log′ answered wrote logged =
     record {
-      finite = every-run-ends bytes byteLaws flipByte-moves (reducedWords s) (words-tidy s);
+      finite = every-run-ends bytes byteLaws flipByte-noOwnInverse (freelyReducedWords s) (loaded-freelyReduced s);
       done =
           λ system fits enough ended room.
           ap (λ (r : Reduction). r .verdict) (answered
-          ∙ ap (λ (c : Checked). reductionOf c (reducedWords s) (roomFor log)) (room-passes s words log enough system fits ended room));
-      reduces = done-reduces s words log a words′ log′ answered wrote logged;
+          ∙ ap (λ (c : Checked). reductionOf c Done (freelyReducedWords s) (roomFor log))
+          (enough-passes s log (systemRoom s (length words)) enough (rw (system, ← room-fits (slots s * 64) (length words) fits)) ended room));
+      reduces =
+          λ done.
+          let passed = reduction-fine (reduceTests s words log) (freelyReducedWords s) (roomFor log) (rw answered at done) in
+          let tests = ran-tests s log (systemRoom s (length words)) passed in
+          ran-reduces s log (systemRoom s (length words)) passed (fine-first (systemRules s) _ tests) Done a words words′ log′ answered wrote logged;
     }

@@ -1,3 +1,2 @@
-pub mod Searches
 pub mod Reduction
 pub mod Meaning

@@ -6,14 +6,13 @@ use mathlib.Core.Bool.{true, false}
 use mathlib.Core.Option.{none}
 use mathlib.Core.List.{List}
 use lib.ListN.{length, take}
-use Rattle.words.specs.Letters.{bytes}
-use Rattle.systems.specs.Products.{Tidy, Equivalent, IndependentWords}
+use Rattle.words.specs.Alphabet.{bytes}
+use Rattle.systems.specs.Products.{FreelyReduced, Equivalent, IndependentWords}
 use Rattle.systems.specs.Reduced.{Reduced}
 use Rattle.systems.specs.Rules.{next, movesWithin, runWithin}
 use Rattle.systems.specs.Rank.{rank}
-use Rattle.records.specs.Records.{slots, systemOf}
-use Rattle.records.specs.Refusals.{systemRules}
-use Rattle.records.specs.Calls.{reducedWords}
+use Rattle.slots.specs.Systems.{slots, systemOf, freelyReducedWords}
+use Rattle.slots.specs.Refusals.{systemRules}
 use Rattle.records.specs.declared.answers.Checked.the-variants.{Fine}
 use Rattle.records.specs.declared.answers.Verdict.the-variants.{Done}
 use Rattle.moves.specs.Logs.{moveSize, movesIn}
@@ -23,17 +22,17 @@ use Rattle.reduction.specs.declared.answers.Tested.{Tested}
 
 -- neither rule applies after so many moves on the freely reduced words of a system
 abbrev pub EnoughMoves : List ℕ → ℕ → Type 0
-EnoughMoves given n = next bytes (runWithin bytes n (reducedWords given)) ≡ none
+EnoughMoves given n = next bytes (runWithin bytes n (freelyReducedWords given)) ≡ none
 
 -- reduce: the given system, the reduced system W and the log L that were written, and the answer
 pub record Reduces (given W L : List ℕ) (answer : Reduction) : Type 0 where
   -- W is a system again, which every call takes
   pub wellFormed : systemRules W ≡ Fine
   -- "The result is a reduced system in Nielsen's sense (1921)", of freely reduced words
-  pub tidy : Tidy bytes (systemOf W)
+  pub freelyReduced : FreelyReduced bytes (systemOf W)
   pub reduced : Reduced bytes (systemOf W)
   -- "The moves are those of document 01, in that order": the log holds those that the rules make, and after them neither rule applies
-  pub moves : movesIn L ≡ movesWithin bytes (answer .moves) (reducedWords given)
+  pub moves : movesIn L ≡ movesWithin bytes (answer .moves) (freelyReducedWords given)
   pub noMoreMoves : EnoughMoves given (answer .moves)
   -- "it is the length of that list"
   pub count : answer .moves ≡ length (movesIn L)
@@ -45,10 +44,10 @@ pub record Reduces (given W L : List ℕ) (answer : Reduction) : Type 0 where
   pub independent : (answer .independent ≡ true) ↔ IndependentWords bytes (systemOf given)
   -- "Following the log forward from the given words gives the reduced ones": replay takes both and gives them
   pub forward : (room : ℕ) → slots given * 64 ≤ room → replayRules given L false room ≡ Fine
-  pub forwardGives : replayed false (reducedWords given) (movesIn L) ≡ systemOf W
+  pub forwardGives : replayed false (freelyReducedWords given) (movesIn L) ≡ systemOf W
   -- "and following it backward from those gives the given words, freely reduced"
   pub backward : (room : ℕ) → slots given * 64 ≤ room → replayRules W L true room ≡ Fine
-  pub backwardGives : replayed true (reducedWords W) (movesIn L) ≡ reducedWords given
+  pub backwardGives : replayed true (freelyReducedWords W) (movesIn L) ≡ freelyReducedWords given
 
 -- the moves that the rules make are finitely many; wherever a well-formed system's words and moves have room, reduce is done; and
 -- whenever it is, W is what it wrote into the words buffer, and L what it wrote into the log
@@ -60,4 +59,4 @@ pub record ReduceMeans (given words log : List ℕ) (answer : Reduction) (words�
 
 -- test: yes exactly when the freely reduced words are reduced
 abbrev pub TestMeans : List ℕ → Tested → Type 0
-TestMeans given answer = answer .verdict ≡ Done → (answer .reduced ≡ true) ↔ Reduced bytes (reducedWords given)
+TestMeans given answer = answer .verdict ≡ Done → (answer .reduced ≡ true) ↔ Reduced bytes (freelyReducedWords given)

@@ -1,44 +1,26 @@
 -- Reduce and test: the rules of document 01 run over a system of records.
-use Prim.Native.Nat.{ℕ, _*_, _/_}
-use mathlib.Core.Bool.{Bool, true, false}
-use mathlib.Core.Option.{Option, none, some}
+use Prim.Native.Nat.{ℕ}
+use mathlib.Core.Bool.{Bool, false}
 use mathlib.Core.List.{List}
-use lib.ListN.{length}
 use lib.Dec.{eqb}
-use Rattle.words.specs.Letters.{bytes}
-use Rattle.systems.specs.Moves.{Move}
-use Rattle.systems.specs.Rules.{next, movesWithin, runWithin}
+use lib.ListN.{length}
+use Rattle.words.specs.Alphabet.{bytes}
+use Rattle.words.specs.Buffers.{written}
 use Rattle.systems.specs.Rank.{rank}
-use Rattle.records.specs.Records.{slots, bytesOf, written}
+use Rattle.systems.specs.Rules.{movesWithin, runWithin}
 use Rattle.records.specs.Answers.{onFine}
-use Rattle.records.specs.Refusals.{must, systemRules, wordRoom, _andThen_}
-use Rattle.records.specs.Calls.{reducedWords}
+use Rattle.records.specs.Refusals.{_andThen_, must}
 use Rattle.records.specs.declared.answers.Checked.{Checked}
-use Rattle.records.specs.declared.answers.Checked.the-variants.{Fine, Failed}
+use Rattle.records.specs.declared.answers.Checked.the-variants.{Failed, Fine}
+use Rattle.records.specs.declared.answers.Verdict.{Verdict}
 use Rattle.records.specs.declared.answers.Verdict.the-variants.{Done, Refused}
-use Rattle.moves.specs.Logs.{moveSize, logOf}
+use Rattle.slots.specs.Refusals.{systemRoom, systemRules}
+use Rattle.slots.specs.Systems.{bytesOf, freelyReducedWords}
+use Rattle.moves.specs.Logs.{logOf}
+use Rattle.runs.specs.Runs.{roomFor, stopped}
 use Rattle.reduction.specs.declared.answers.Reduction.{Reduction}
 use Rattle.reduction.specs.declared.answers.Tested.{Tested}
-
--- neither rule applies
-abbrev pub isNone : Option Move → Bool
-isNone none = true
-isNone (some m) = false
-
-abbrev pub stopped : List (List ℕ) → Bool
-stopped S = isNone (next bytes S)
-
--- how many moves a log buffer has room for: "a quarter of the log buffer's length, rounded down"
-abbrev pub roomFor : List ℕ → ℕ
-roomFor log = length log / moveSize
-
--- refusals 1 to 5 and 10
-unfoldable pub reduceTests : List ℕ → ℕ → Checked
-reduceTests s room = systemRules s andThen wordRoom (slots s * 64) room
-
--- and then 13. "The moves number more than a quarter of the log buffer's length, rounded down."
-unfoldable pub reduceRules : List ℕ → ℕ → ℕ → Checked
-reduceRules s room most = reduceTests s room andThen must (stopped (runWithin bytes most (reducedWords s))) 13 0
+use Rattle.reduction.specs.declared.reduce.Summary.{Summary}
 
 -- "The verdict is 'independent' if the rank equals the number of given words that don't freely reduce to the empty word."
 abbrev pub sameRank : List (List ℕ) → List (List ℕ) → Bool
@@ -49,29 +31,48 @@ abbrev pub refusedReduction : Checked → Reduction
 refusedReduction Fine = record { verdict = Done; moves = 0; rank = 0; independent = false }
 refusedReduction (Failed f) = record { verdict = Refused f; moves = 0; rank = 0; independent = false }
 
--- the answer of a reduction with room for the most moves given
-abbrev pub reductionOf : Checked → List (List ℕ) → ℕ → Reduction
-reductionOf Fine S most =
+-- the answer of reduce and of member: a refusal, or a verdict with the numbers of a run of at most so many moves
+abbrev pub reductionOf : Checked → Verdict → List (List ℕ) → ℕ → Reduction
+reductionOf Fine verdict S most =
     record {
-      verdict = Done;
+      verdict = verdict;
       moves = length (movesWithin bytes most S);
       rank = rank (runWithin bytes most S);
       independent = sameRank S (runWithin bytes most S);
     }
-reductionOf (Failed f) S most = refusedReduction (Failed f)
+reductionOf (Failed f) verdict S most = refusedReduction (Failed f)
 
--- Reduce: "give the reduced system, the log, the number of moves, the rank and the verdict on independence"
-abbrev pub reduceAnswer : List ℕ → List ℕ → List ℕ → Reduction
-reduceAnswer s words log = reductionOf (reduceRules s (length words) (roomFor log)) (reducedWords s) (roomFor log)
+-- reduce and member alike: the freely reduced words S are run over where no test before the run fails, with room for so many moves
+module _ (tests : Checked) (S : List (List ℕ)) (most : ℕ) where
+  -- those tests, and then 13. "The moves number more than a quarter of the log buffer's length, rounded down."
+  abbrev pub runTests : Checked
+  runTests = tests andThen must (stopped (runWithin bytes most S)) 13 0
 
-abbrev pub reduceWords : List ℕ → List ℕ → List ℕ → List ℕ
-reduceWords s words log =
-    onFine (reduceRules s (length words) (roomFor log)) (written (bytesOf (runWithin bytes (roomFor log) (reducedWords s))) words) words
+  -- the words that the run leaves, in the buffer for words
+  abbrev pub wordsAfter : List ℕ → List ℕ
+  wordsAfter words = onFine runTests (written (bytesOf (runWithin bytes most S)) words) words
 
--- "Under 13 the log holds, as whole records, the first moves that fit; its other bytes and the other buffers are untouched."
-abbrev pub reduceLog : List ℕ → List ℕ → List ℕ → List ℕ
-reduceLog s words log =
-    onFine (reduceTests s (length words)) (written (logOf (movesWithin bytes (roomFor log) (reducedWords s))) log) log
+  -- "Under 13 the log holds, as whole records, the first moves that fit; its other bytes and the other buffers are untouched."
+  abbrev pub logAfter : List ℕ → List ℕ
+  logAfter log = onFine tests (written (logOf (movesWithin bytes most S)) log) log
+
+-- Reduce: "give the reduced system, the log, the number of moves, the rank and the verdict on independence"; refusals 1 to 5, 10, 13
+module _ (s words log : List ℕ) where
+  abbrev pub reduceTests : Checked
+  reduceTests = runTests (systemRoom s (length words)) (freelyReducedWords s) (roomFor log)
+
+  abbrev pub reduceAnswer : Reduction
+  reduceAnswer = reductionOf reduceTests Done (freelyReducedWords s) (roomFor log)
+
+  abbrev pub reduceWords : List ℕ
+  reduceWords = wordsAfter (systemRoom s (length words)) (freelyReducedWords s) (roomFor log) words
+
+  abbrev pub reduceLog : List ℕ
+  reduceLog = logAfter (systemRoom s (length words)) (freelyReducedWords s) (roomFor log) log
+
+-- what a reduction came to, with a verdict
+abbrev pub summed : Summary → Verdict → Reduction
+summed z v = record { verdict = v; moves = z .moves; rank = z .rank; independent = eqb (z .rank) (z .given) }
 
 -- the same for test
 abbrev pub refusedTest : Checked → Tested
@@ -84,4 +85,4 @@ testedOf Fine S = record { verdict = Done; reduced = stopped S }
 testedOf (Failed f) S = refusedTest (Failed f)
 
 abbrev pub testAnswer : List ℕ → Tested
-testAnswer s = testedOf (systemRules s) (reducedWords s)
+testAnswer s = testedOf (systemRules s) (freelyReducedWords s)

@@ -1,33 +1,34 @@
 // Reduce: the reduced system, the log, the number of moves, the rank and the verdict on independence.
-ghost use mathlib.Core.Path.{_≡_};
 ghost use Prim.Native.Nat.{_≤_};
+ghost use mathlib.Core.Path.{_≡_};
 ghost use lib.ListN.{length};
-ghost use Rattle.words.specs.Letters.{bytes};
-ghost use Rattle.systems.specs.Rules.{movesWithin, runWithin};
+ghost use Rattle.words.specs.Alphabet.{bytes};
+ghost use Rattle.words.specs.Buffers.{written};
 ghost use Rattle.systems.specs.Rank.{rank};
-ghost use Rattle.records.specs.Records.{slots, written};
-ghost use Rattle.records.specs.Held.{held, Short};
-ghost use Rattle.records.specs.Calls.{reducedWords};
+ghost use Rattle.systems.specs.Rules.{movesWithin, runWithin};
+ghost use Rattle.records.specs.Refusals.{must};
+ghost use Rattle.slots.specs.Held.{Held, held};
+ghost use Rattle.slots.specs.Systems.{freelyReducedWords, slots};
 ghost use Rattle.moves.specs.Logs.{logOf};
-ghost use Rattle.reduction.specs.Reduction.{stopped, roomFor, reduceTests, refusedReduction, reduceAnswer, reduceWords, reduceLog};
+ghost use Rattle.runs.specs.Runs.{roomFor, stopped};
 ghost use Rattle.reduction.specs.Meaning.{ReduceMeans};
+ghost use Rattle.reduction.specs.Reduction.{reduceAnswer, reduceLog, reduceWords, refusedReduction, summed};
 use crate::answers::Reduction;
-use crate::run::run;
 use records::answers::Checked;
 use records::answers::Verdict;
 use records::answers::check_that;
 use records::record::RECORD;
-use records::system::check_room;
-use records::system::check_system;
-use records::system::load;
-use records::system::store;
+use runs::run;
+use slots::checks::check_system_room;
+use slots::held::load;
+use slots::held::store;
 
-// The reduction of a system that is held in arrays: the moves made, the ranks before and after, and whether the run ended.
-pub struct Outcome {
+// What the reduction of a system came to: the moves made, the ranks before and after, and refusal 13 where the run did not end.
+pub struct Summary {
     pub moves: usize,
     pub given: usize,
     pub rank: usize,
-    pub ended: bool,
+    pub ended: Checked,
 }
 
 // Reduces a system: the reduced words go into one lent buffer and the log of the moves into another.
@@ -46,30 +47,36 @@ fn reduce_records(system: &[u8], words: &mut [u8], log: &mut [u8]) -> Reduction
     ensures words { λ _. ⌜ now (words .exit) ≡ reduceWords (now (system .entry)) (now (words .entry)) (now (log .entry)) ⌝ }
     ensures log { λ _. ⌜ now (log .exit) ≡ reduceLog (now (system .entry)) (now (words .entry)) (now (log .entry)) ⌝ }
 {
-    let checked = check_reduce(system, words.len());
+    let checked = check_system_room(system, words.len());
     let Checked::Fine = checked else {
         return refused(checked);
     };
-    let n = system.len() / RECORD;
     let mut letters = [0u8; 1024];
     let mut lengths = [0usize; 16];
-    let outcome = reduce_held(system, &mut letters, &mut lengths, log);
-    let ended = check_that(outcome.ended, 13);
+    let summary = reduce_held(system, &mut letters, &mut lengths, log);
+    let ended = summary.ended;
     let Checked::Fine = ended else {
         return refused(ended);
     };
-    store(&letters, &lengths, n, words);
-    let rank = outcome.rank;
-    let given = outcome.given;
+    store(&letters, &lengths, system.len() / RECORD, words);
+    answer_with(summary, Verdict::Done)
+}
+
+// The answer of reduce and of member, from what the reduction came to.
+pub fn answer_with(summary: Summary, verdict: Verdict) -> Reduction
+    ensures { λ r. ⌜ r ≡ summed summary verdict ⌝ }
+{
+    let rank = summary.rank;
+    let given = summary.given;
     Reduction {
-        verdict: Verdict::Done,
-        moves: outcome.moves,
+        verdict,
+        moves: summary.moves,
         rank,
         independent: rank == given,
     }
 }
 
-// The answer of a reduction that was turned down.
+// The answer of reduce and of member where a test failed.
 pub fn refused(checked: Checked) -> Reduction
     ensures { λ r. ⌜ r ≡ refusedReduction checked ⌝ }
 {
@@ -89,56 +96,39 @@ pub fn refused(checked: Checked) -> Reduction
     }
 }
 
-// Refusals 1 to 5 and 10.
-fn check_reduce(system: &[u8], room: usize) -> Checked
-    ensures { λ r. ⌜ r ≡ reduceTests (now (system .entry)) room ⌝ }
-{
-    let checked = check_system(system);
-    let Checked::Fine = checked else {
-        return checked;
-    };
-    let n = system.len() / RECORD;
-    check_room(n * RECORD, room)
-}
-
 // Takes the words of a system into arrays and reduces them there, with the moves in the log.
 pub fn reduce_held(
     system: &[u8],
     letters: &mut [u8],
     lengths: &mut [usize],
     log: &mut [u8],
-) -> Outcome
+) -> Summary
     requires { ⌜ length (now system) ≤ 1024 ⌝ }
-    requires { ⌜ length (now letters) ≡ 1024 ⌝ }
-    requires { ⌜ length (now lengths) ≡ 16 ⌝ }
-    requires { ⌜ Short (now lengths) ⌝ }
-    ensures moves { λ r. ⌜ r .moves ≡ length (movesWithin bytes (roomFor (now (log .entry))) (reducedWords (now (system .entry)))) ⌝ }
-    ensures given { λ r. ⌜ r .given ≡ rank (reducedWords (now (system .entry))) ⌝ }
-    ensures rank { λ r. ⌜ r .rank ≡ rank (runWithin bytes (roomFor (now (log .entry))) (reducedWords (now (system .entry)))) ⌝ }
-    ensures ended { λ r. ⌜ r .ended ≡ stopped (runWithin bytes (roomFor (now (log .entry))) (reducedWords (now (system .entry)))) ⌝ }
-    ensures words { λ _. ⌜ held (slots (now (system .entry))) (now (letters .exit)) (now (lengths .exit)) ≡ runWithin bytes (roomFor (now (log .entry))) (reducedWords (now (system .entry))) ⌝ }
-    ensures log { λ _. ⌜ now (log .exit) ≡ written (logOf (movesWithin bytes (roomFor (now (log .entry))) (reducedWords (now (system .entry))))) (now (log .entry)) ⌝ }
-    ensures short { λ _. ⌜ Short (now (lengths .exit)) ⌝ }
+    requires { ⌜ Held 0 (now letters) (now lengths) ⌝ }
+    ensures moves { λ r. ⌜ r .moves ≡ length (movesWithin bytes (roomFor (now (log .entry))) (freelyReducedWords (now (system .entry)))) ⌝ }
+    ensures given { λ r. ⌜ r .given ≡ rank (freelyReducedWords (now (system .entry))) ⌝ }
+    ensures rank { λ r. ⌜ r .rank ≡ rank (runWithin bytes (roomFor (now (log .entry))) (freelyReducedWords (now (system .entry)))) ⌝ }
+    ensures ended { λ r. ⌜ r .ended ≡ must (stopped (runWithin bytes (roomFor (now (log .entry))) (freelyReducedWords (now (system .entry))))) 13 0 ⌝ }
+    ensures words { λ _. ⌜ held (slots (now (system .entry))) (now (letters .exit)) (now (lengths .exit)) ≡ runWithin bytes (roomFor (now (log .entry))) (freelyReducedWords (now (system .entry))) ⌝ }
+    ensures log { λ _. ⌜ now (log .exit) ≡ written (logOf (movesWithin bytes (roomFor (now (log .entry))) (freelyReducedWords (now (system .entry))))) (now (log .entry)) ⌝ }
+    ensures held { λ _. ⌜ Held (slots (now (system .entry))) (now (letters .exit)) (now (lengths .exit)) ⌝ }
 {
     let n = system.len() / RECORD;
     load(system, letters, lengths);
     let given = rank_of(letters, lengths, n);
     let ran = run(letters, lengths, n, log);
     let rank = rank_of(letters, lengths, n);
-    Outcome {
+    Summary {
         moves: ran.moves,
         given,
         rank,
-        ended: ran.ended,
+        ended: check_that(ran.ended, 13),
     }
 }
 
 // How many of the words held are not empty.
 fn rank_of(letters: &[u8], lengths: &[usize], n: usize) -> usize
-    requires { ⌜ n ≤ 16 ⌝ }
-    requires { ⌜ length (now letters) ≡ 1024 ⌝ }
-    requires { ⌜ length (now lengths) ≡ 16 ⌝ }
-    requires { ⌜ Short (now lengths) ⌝ }
+    requires { ⌜ Held n (now letters) (now lengths) ⌝ }
     ensures { λ r. ⌜ r ≡ rank (held n (now (letters .entry)) (now (lengths .entry))) ⌝ }
 {
     let mut count = 0;

@@ -1,16 +1,16 @@
 // Test: is a system, after free reduction of its words, reduced?
 ghost use mathlib.Core.Path.{_≡_};
-ghost use Rattle.reduction.specs.Reduction.{refusedTest, testAnswer};
 ghost use Rattle.reduction.specs.Meaning.{TestMeans};
+ghost use Rattle.reduction.specs.Reduction.{refusedTest, testAnswer};
 use crate::answers::Tested;
-use crate::marks::mark_own;
-use crate::search::Found;
-use crate::search::find_move;
+use marks::mark_own;
 use records::answers::Checked;
 use records::answers::Verdict;
 use records::record::RECORD;
-use records::system::check_system;
-use records::system::load;
+use runs::find_move;
+use runs::is_nothing;
+use slots::checks::check_system;
+use slots::held::load;
 
 // Tests whether the freely reduced words of a system are reduced.
 pub fn test(system: &[u8]) -> Tested
@@ -35,19 +35,13 @@ fn test_records(system: &[u8]) -> Tested
     mark_own(&mut marks);
     load(system, &mut letters, &mut lengths);
     let found = find_move(&letters, &lengths, n, 0, &mut marks);
-    let Found::Nothing = found else {
-        return Tested {
-            verdict: Verdict::Done,
-            reduced: false,
-        };
-    };
     Tested {
         verdict: Verdict::Done,
-        reduced: true,
+        reduced: is_nothing(found),
     }
 }
 
-// The answer of a test that was turned down.
+// The answer of a test that was refused.
 fn untested(checked: Checked) -> Tested
     ensures { λ r. ⌜ r ≡ refusedTest checked ⌝ }
 {

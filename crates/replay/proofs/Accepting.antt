@@ -1,25 +1,22 @@
 -- Which runs are not refused: the moves change slots that the system has, and each word on the way has at most 63 letters.
 -- So a log whose words stay short runs forward from the system before it, and backward from the system after it.
-use Prim.Native.Nat.{ℕ, suc, _+_, _*_, _≤_, _<_}
-use mathlib.Core.Path.{_≡_, refl, sym}
+use Prim.Native.Nat.{_*_, _+_, _<_, _≤_, suc, ℕ}
 use mathlib.Core.Bool.{Bool, true}
 use mathlib.Core.List.{List, [], _∷_}
+use mathlib.Core.Path.{_≡_, refl}
+use lib.ListN.{drop, length, take}
 use borrow.Author.Tests.{le-leb}
-use lib.ListN.{length, take, drop}
-use Rattle.words.specs.Letters.{bytes}
-use Rattle.words.proofs.Letters.{byteLaws}
-use Rattle.systems.specs.Products.{word, Tidy}
-use Rattle.systems.specs.Moves.{Move, undo, movedWord, made, madeAll, undoneAll}
-use Rattle.systems.proofs.Undoing.{AllApart, made-length, made-changed, madeAll-length, undoneAll-length, madeAll-undone-to}
-use Rattle.records.specs.Records.{slots}
-use Rattle.records.specs.Refusals.{systemRules}
-use Rattle.records.specs.Calls.{reducedWords}
+use Rattle.words.specs.Alphabet.{bytes}
+use Rattle.systems.specs.Moves.{Move, made, madeAll, movedWord, undo, undoneAll}
+use Rattle.systems.proofs.Undoing.{made-changed, made-length, undoneAll-length}
 use Rattle.records.specs.declared.answers.Checked.the-variants.{Fine}
-use Rattle.records.proofs.Systems.{room-fits}
-use Rattle.moves.specs.Logs.{movesIn, logRules}
-use Rattle.moves.proofs.Logging.{AllBetween}
-use Rattle.replay.specs.Replay.{fits, forwardRules, backwardRules, runRules, replayRules}
-use Rattle.replay.proofs.Calls.{tests-room, rules-run}
+use Rattle.slots.specs.Refusals.{systemRules}
+use Rattle.slots.specs.Systems.{freelyReducedWords, slots}
+use Rattle.slots.proofs.RoundTrip.{AllShort}
+use Rattle.slots.proofs.Systems.{room-fits}
+use Rattle.moves.specs.Logs.{logRules, movesIn}
+use Rattle.moves.proofs.LogBack.{AllBetween}
+use Rattle.replay.specs.Replay.{backwardRules, fits, forwardRules, replayRules, replayTests, runRules}
 
 -- each move changes one of the first n slots
 abbrev pub AllInside : ℕ → List Move → Type 0
@@ -29,10 +26,6 @@ AllInside n (m ∷ ms) = (m .changed < n) × AllInside n ms
 pub between-inside : (n : ℕ) (ms : List Move) → AllBetween n ms → AllInside n ms
 between-inside n [] all = tt
 between-inside n (m ∷ ms) all = (all .0 .0, between-inside n ms all.1)
-
--- every word of a system fits a record
-abbrev pub AllShort : List (List ℕ) → Type 0
-AllShort S = (k : ℕ) → length (word bytes S k) ≤ 63
 
 -- a move fits when the words after it do
 short-fits : (S : List (List ℕ)) (m : Move) → m .changed < length S → AllShort (made bytes S m) → fits S m ≡ true
@@ -55,16 +48,8 @@ backward-accepts S (m ∷ ms) j inside short =
     short-fits (undoneAll bytes S ms) (undo m) (rw (undoneAll-length bytes S ms) inside.0) (short 0) in
     rw (backward-accepts S ms (j + 1) inside.1 (λ i. short (suc i)), fitting)
 
--- a row of moves that runs forward runs backward from what it has made
-pub backward-accepts-made : (S : List (List ℕ)) (ms : List Move) (j : ℕ) → Tidy bytes S → AllApart ms → AllInside (length S) ms
-    → ((i : ℕ) → AllShort (madeAll bytes S (take i ms))) → backwardRules (madeAll bytes S ms) ms j ≡ Fine
-backward-accepts-made S ms j tidy apart inside short =
-    backward-accepts (madeAll bytes S ms) ms j (rw (madeAll-length bytes S ms) inside)
-    (λ i. rw (madeAll-undone-to bytes byteLaws S ms i tidy apart) (short i))
-
 -- the whole call: a system and a log that pass, a buffer that is long enough, and a run that is not refused
 pub replay-accepts : (s log : List ℕ) (way : Bool) (room : ℕ) → systemRules s ≡ Fine → logRules (slots s) log ≡ Fine
-    → slots s * 64 ≤ room → runRules way (reducedWords s) (movesIn log) ≡ Fine → replayRules s log way room ≡ Fine
-replay-accepts s log way room system logged long ran =
-    sym (rules-run s log way room (reducedWords s)
-    (tests-room s log room (sym system) refl (sym logged) refl (room-fits (slots s * 64) room long)) refl refl (sym ran))
+    → slots s * 64 ≤ room → runRules way (freelyReducedWords s) (movesIn log) ≡ Fine → replayRules s log way room ≡ Fine
+unfolding replayRules replayTests
+replay-accepts s log way room system logged long ran = rw (system, logged, ← room-fits (slots s * 64) room long, ran)

@@ -5,12 +5,13 @@ use mathlib.Core.Bool.{Bool, cond}
 use mathlib.Core.List.{List, [], _∷_}
 use lib.ListN.{length}
 use lib.Dec.{leb}
-use Rattle.words.specs.Letters.{bytes}
+use Rattle.words.specs.Alphabet.{bytes}
 use Rattle.systems.specs.Moves.{Move, undo, movedWord, made, madeAll, undoneAll}
-use Rattle.records.specs.Records.{slots, bytesOf, written}
-use Rattle.records.specs.Answers.{outcomeOf, onFine}
-use Rattle.records.specs.Refusals.{must, systemRules, wordRoom, _andThen_}
-use Rattle.records.specs.Calls.{reducedWords}
+use Rattle.slots.specs.Systems.{slots, bytesOf, freelyReducedWords}
+use Rattle.words.specs.Buffers.{written}
+use Rattle.records.specs.Answers.{answerOf, onFine}
+use Rattle.records.specs.Refusals.{must, _andThen_}
+use Rattle.slots.specs.Refusals.{systemRules, wordRoom}
 use Rattle.records.specs.declared.answers.Answer.{Answer}
 use Rattle.records.specs.declared.answers.Checked.{Checked}
 use Rattle.records.specs.declared.answers.Checked.the-variants.{Fine}
@@ -43,11 +44,11 @@ replayTests s log room = systemRules s andThen logRules (slots s) log andThen wo
 
 -- and then 12
 unfoldable pub replayRules : List ℕ → List ℕ → Bool → ℕ → Checked
-replayRules s log backward room = replayTests s log room andThen runRules backward (reducedWords s) (movesIn log)
+replayRules s log backward room = replayTests s log room andThen runRules backward (freelyReducedWords s) (movesIn log)
 
 abbrev pub replayAnswer : List ℕ → List ℕ → Bool → List ℕ → Answer
-replayAnswer s log backward buffer = outcomeOf (replayRules s log backward (length buffer))
+replayAnswer s log backward buffer = answerOf (replayRules s log backward (length buffer))
 
 abbrev pub replayBuffer : List ℕ → List ℕ → Bool → List ℕ → List ℕ
 replayBuffer s log backward buffer =
-    onFine (replayRules s log backward (length buffer)) (written (bytesOf (replayed backward (reducedWords s) (movesIn log))) buffer) buffer
+    onFine (replayRules s log backward (length buffer)) (written (bytesOf (replayed backward (freelyReducedWords s) (movesIn log))) buffer) buffer

@@ -1,29 +1,27 @@
 // Replay: a system and a log in, the system after the log's moves out, forward or backward.
+ghost use Prim.Native.Nat.{_-_, _<_};
 ghost use mathlib.Core.Path.{_≡_};
-ghost use Prim.Native.Nat.{_-_, _≤_, _<_};
-ghost use lib.ListN.{length};
-ghost use Rattle.words.specs.Letters.{bytes};
-ghost use Rattle.systems.specs.Products.{Tidy};
-ghost use Rattle.systems.specs.Moves.{madeAll, undoneAll};
-ghost use Rattle.systems.specs.Moves.{undo as Moves·undo};
-ghost use Rattle.records.specs.Held.{held, Short};
+ghost use Rattle.words.specs.Alphabet.{bytes};
+ghost use Rattle.systems.specs.Moves.{madeAll, undoneAll, undo as Moves·undo};
 ghost use Rattle.records.specs.declared.answers.Checked.the-variants.{Fine};
-ghost use Rattle.moves.specs.Logs.{logRules, movesIn, moveOf};
-ghost use Rattle.replay.specs.Replay.{forwardRules, backwardRules, runRules, replayed, replayTests, replayAnswer, replayBuffer};
+ghost use Rattle.slots.specs.Held.{Held, held};
+ghost use Rattle.moves.specs.Found.{moveOf};
+ghost use Rattle.moves.specs.Logs.{logRules, movesIn};
+ghost use Rattle.replay.specs.Replay.{backwardRules, forwardRules, replayAnswer, replayBuffer, replayTests, replayed, runRules};
+use moves::found::Move;
 use moves::log::MOVE;
-use moves::log::Step;
 use moves::log::check_log;
 use moves::log::read_move;
-use moves::step::make_move;
+use moves::make::make_move;
 use records::answers::Answer;
 use records::answers::Checked;
-use records::answers::outcome;
+use records::answers::answer_of;
 use records::answers::refuse;
 use records::record::RECORD;
-use records::system::check_room;
-use records::system::check_system;
-use records::system::load;
-use records::system::store;
+use slots::checks::check_room;
+use slots::checks::check_system;
+use slots::held::load;
+use slots::held::store;
 
 // Runs a log over a system and writes the words after it into the lent buffer.
 pub fn replay(system: &[u8], log: &[u8], backward: bool, words: &mut [u8]) -> Answer
@@ -32,7 +30,7 @@ pub fn replay(system: &[u8], log: &[u8], backward: bool, words: &mut [u8]) -> An
 {
     let checked = check_replay(system, log, words.len());
     let Checked::Fine = checked else {
-        return outcome(checked);
+        return answer_of(checked);
     };
     let n = system.len() / RECORD;
     let mut letters = [0u8; 1024];
@@ -40,10 +38,10 @@ pub fn replay(system: &[u8], log: &[u8], backward: bool, words: &mut [u8]) -> An
     load(system, &mut letters, &mut lengths);
     let ran = run(log, backward, n, &mut letters, &mut lengths);
     let Checked::Fine = ran else {
-        return outcome(ran);
+        return answer_of(ran);
     };
     store(&letters, &lengths, n, words);
-    outcome(ran)
+    answer_of(ran)
 }
 
 // Refusals 1 to 5, 7, 8 and 10.
@@ -64,15 +62,11 @@ fn check_replay(system: &[u8], log: &[u8], room: usize) -> Checked
 
 // Runs the moves of a log, one way or the other, with refusal 12.
 fn run(log: &[u8], backward: bool, n: usize, letters: &mut [u8], lengths: &mut [usize]) -> Checked
-    requires { ⌜ n ≤ 16 ⌝ }
     requires { ⌜ logRules n (now log) ≡ Fine ⌝ }
-    requires { ⌜ length (now letters) ≡ 1024 ⌝ }
-    requires { ⌜ length (now lengths) ≡ 16 ⌝ }
-    requires { ⌜ Short (now lengths) ⌝ }
-    requires { ⌜ Tidy bytes (held n (now letters) (now lengths)) ⌝ }
+    requires { ⌜ Held n (now letters) (now lengths) ⌝ }
     ensures rules { λ r. ⌜ r ≡ runRules backward (held n (now (letters .entry)) (now (lengths .entry))) (movesIn (now (log .entry))) ⌝ }
     ensures words { λ r. ⌜ (r ≡ Fine → held n (now (letters .exit)) (now (lengths .exit)) ≡ replayed backward (held n (now (letters .entry)) (now (lengths .entry))) (movesIn (now (log .entry)))) ⌝ }
-    ensures short { λ _. ⌜ Short (now (lengths .exit)) ⌝ }
+    ensures held { λ _. ⌜ Held n (now (letters .exit)) (now (lengths .exit)) ⌝ }
 {
     if backward {
         return run_backward(log, n, letters, lengths);
@@ -82,15 +76,11 @@ fn run(log: &[u8], backward: bool, n: usize, letters: &mut [u8], lengths: &mut [
 
 // Makes the moves of a log, the first one first.
 fn run_forward(log: &[u8], n: usize, letters: &mut [u8], lengths: &mut [usize]) -> Checked
-    requires { ⌜ n ≤ 16 ⌝ }
     requires { ⌜ logRules n (now log) ≡ Fine ⌝ }
-    requires { ⌜ length (now letters) ≡ 1024 ⌝ }
-    requires { ⌜ length (now lengths) ≡ 16 ⌝ }
-    requires { ⌜ Short (now lengths) ⌝ }
-    requires { ⌜ Tidy bytes (held n (now letters) (now lengths)) ⌝ }
+    requires { ⌜ Held n (now letters) (now lengths) ⌝ }
     ensures rules { λ r. ⌜ r ≡ forwardRules (held n (now (letters .entry)) (now (lengths .entry))) (movesIn (now (log .entry))) 1 ⌝ }
     ensures words { λ r. ⌜ (r ≡ Fine → held n (now (letters .exit)) (now (lengths .exit)) ≡ madeAll bytes (held n (now (letters .entry)) (now (lengths .entry))) (movesIn (now (log .entry)))) ⌝ }
-    ensures short { λ _. ⌜ Short (now (lengths .exit)) ⌝ }
+    ensures held { λ _. ⌜ Held n (now (letters .exit)) (now (lengths .exit)) ⌝ }
 {
     let count = log.len() / MOVE;
     let mut j = 0;
@@ -107,15 +97,11 @@ fn run_forward(log: &[u8], n: usize, letters: &mut [u8], lengths: &mut [usize]) 
 
 // Undoes the moves of a log, the last one first.
 fn run_backward(log: &[u8], n: usize, letters: &mut [u8], lengths: &mut [usize]) -> Checked
-    requires { ⌜ n ≤ 16 ⌝ }
     requires { ⌜ logRules n (now log) ≡ Fine ⌝ }
-    requires { ⌜ length (now letters) ≡ 1024 ⌝ }
-    requires { ⌜ length (now lengths) ≡ 16 ⌝ }
-    requires { ⌜ Short (now lengths) ⌝ }
-    requires { ⌜ Tidy bytes (held n (now letters) (now lengths)) ⌝ }
+    requires { ⌜ Held n (now letters) (now lengths) ⌝ }
     ensures rules { λ r. ⌜ r ≡ backwardRules (held n (now (letters .entry)) (now (lengths .entry))) (movesIn (now (log .entry))) 1 ⌝ }
     ensures words { λ r. ⌜ (r ≡ Fine → held n (now (letters .exit)) (now (lengths .exit)) ≡ undoneAll bytes (held n (now (letters .entry)) (now (lengths .entry))) (movesIn (now (log .entry)))) ⌝ }
-    ensures short { λ _. ⌜ Short (now (lengths .exit)) ⌝ }
+    ensures held { λ _. ⌜ Held n (now (letters .exit)) (now (lengths .exit)) ⌝ }
 {
     let count = log.len() / MOVE;
     let mut done = 0;
@@ -141,14 +127,14 @@ fn from_last(count: usize, done: usize) -> usize
 }
 
 // The move that takes a move back: forms 1 and 2 undo each other, and so do 3 and 4.
-fn undo(step: Step) -> Step
+fn undo(step: Move) -> Move
     requires { ⌜ step .form < 4 ⌝ }
     ensures { λ r. ⌜ (r .changed ≡ step .changed) × (r .other ≡ step .other) × (r .form < 4) ⌝ }
     ensures { λ r. ⌜ moveOf r ≡ Moves·undo (moveOf step) ⌝ }
 {
     let form = step.form;
     let undoing = if form % 2 == 0 { form + 1 } else { form - 1 };
-    Step {
+    Move {
         changed: step.changed,
         form: undoing,
         other: step.other,

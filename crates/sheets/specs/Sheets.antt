@@ -6,8 +6,9 @@ use mathlib.Core.Path.{_≡_}
 use mathlib.Core.Bool.{Bool, true, false}
 use mathlib.Core.List.{List, [], _∷_, _++_}
 use lib.ListN.{length, replicate}
-use Rattle.records.specs.Records.{recordOf, written}
-use Rattle.records.specs.Calls.{tidyAnswer, tidyBuffer}
+use Rattle.records.specs.Records.{recordOf}
+use Rattle.words.specs.Buffers.{written}
+use Rattle.tidy.specs.Tidy.{tidyAnswer, tidyBuffer}
 use Rattle.records.specs.declared.answers.Verdict.the-variants.{Done, Member, NotMember}
 use Rattle.reduction.specs.Reduction.{reduceAnswer, reduceWords, reduceLog}
 use Rattle.membership.specs.Membership.{memberAnswer, memberProduct}

@@ -2,8 +2,8 @@
 // for a member, the product; or one line that says why the input is refused.
 mod input;
 
-use input::read_input;
-use membership::member::member;
+use crate::input::read_input;
+use membership::member;
 use records::answers::Verdict;
 use reduction::answers::Reduction;
 

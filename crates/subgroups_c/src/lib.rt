@@ -1,14 +1,14 @@
 // The entries for C. Each calls the proved function of its name and puts the answer's numbers into a fixed array, which C sees as a struct.
 ghost use mathlib.Core.Path.{_≡_};
-ghost use Rattle.records.specs.Answers.{verdictNumber, refusalNumber, refusalPlace};
-ghost use Rattle.records.specs.Calls.{tidyAnswer, tidyBuffer};
+ghost use Rattle.records.specs.Answers.{refusalNumber, refusalPlace, verdictNumber};
+ghost use Rattle.tidy.specs.Tidy.{tidyAnswer, tidyBuffer};
 ghost use Rattle.replay.specs.Replay.{replayAnswer, replayBuffer};
 ghost use Rattle.multiply.specs.Multiply.{multiplyAnswer, multiplyBuffer};
-ghost use Rattle.membership.specs.Membership.{memberAnswer, memberWords, memberLog, memberProduct};
+ghost use Rattle.reduction.specs.Meaning.{ReduceMeans, TestMeans};
+ghost use Rattle.reduction.specs.Reduction.{reduceAnswer, reduceLog, reduceWords, testAnswer};
 ghost use Rattle.membership.specs.Meaning.{MemberMeans};
-ghost use Rattle.reduction.specs.Reduction.{testAnswer, reduceAnswer, reduceWords, reduceLog};
-ghost use Rattle.reduction.specs.Meaning.{TestMeans, ReduceMeans};
-ghost use Rattle.subgroups_c.specs.Numbers.{isBackward, oneOrZero, plainNumbers, testNumbers, reductionNumbers};
+ghost use Rattle.membership.specs.Membership.{memberAnswer, memberLog, memberProduct, memberWords};
+ghost use Rattle.subgroups_c.specs.Numbers.{isBackward, oneOrZero, plainNumbers, reductionNumbers, testNumbers};
 use records::answers::Answer;
 use records::answers::Verdict;
 use reduction::answers::Reduction;
@@ -111,7 +111,7 @@ pub extern "C" fn subgroups_tidy(system: &[u8], words: &mut [u8], numbers: &mut 
     ensures words { λ _. ⌜ now (words .exit) ≡ tidyBuffer (now (system .entry)) (now (words .entry)) ⌝ }
     ensures numbers { λ _. ⌜ now (numbers .exit) ≡ plainNumbers (tidyAnswer (now (system .entry)) (now (words .entry))) ⌝ }
 {
-    let answer = records::tidy::tidy(system, words);
+    let answer = tidy::tidy(system, words);
     *numbers = plain_numbers(answer);
 }
 
@@ -189,6 +189,6 @@ pub extern "C" fn subgroups_member(
     ensures numbers { λ _. ⌜ now (numbers .exit) ≡ reductionNumbers (memberAnswer (now (system .entry)) (now (target .entry)) (now (words .entry)) (now (log .entry)) (now (product .entry))) ⌝ }
     ensures means { λ _. ⌜ MemberMeans (now (system .entry)) (now (target .entry)) (now (words .entry)) (now (log .entry)) (now (product .entry)) (memberAnswer (now (system .entry)) (now (target .entry)) (now (words .entry)) (now (log .entry)) (now (product .entry))) (now (words .exit)) (now (log .exit)) (now (product .exit)) ⌝ }
 {
-    let answer = membership::member::member(system, target, words, log, product);
+    let answer = membership::member(system, target, words, log, product);
     *numbers = reduction_numbers(answer);
 }

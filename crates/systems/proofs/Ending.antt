@@ -12,19 +12,19 @@ use native.Mathlib.Decide.{decLt, ℕ-discrete}
 use lib.ListN.{length, take, drop, length-take, length-drop, take-append-drop}
 use lib.Dec.{leb, eqb}
 use borrow.Author.Tests.{leb-true, le-leb, eqb-true, eq-eqb, ne-eqb}
-use Rattle.words.specs.Letters.{Letters}
-use Rattle.words.specs.Words.{reduce, inverse, Irreducible, common, cancelled}
-use Rattle.words.proofs.Letters.{LetterLaws}
-use Rattle.words.proofs.Inverse.{inverse-append, inverse-twice, inverse-length, inverse-split, reduce-inverse}
-use Rattle.words.proofs.Cancellation.{common-comm, common-append, common-trans, common-le-right, cancelled-common, cancelled-self, reduce-cancelled}
-use Rattle.systems.specs.Products.{Factor, factors, word, value, Tidy}
+use Rattle.words.specs.Alphabet.{Alphabet}
+use Rattle.words.specs.Words.{freelyReduce, inverse, Irreducible, commonPrefix, cancellation}
+use Rattle.words.proofs.Alphabet.{AlphabetLaws}
+use Rattle.words.proofs.Inverse.{inverse-append, inverse-twice, inverse-length, inverse-split, freelyReduce-inverse}
+use Rattle.words.proofs.Cancellation.{commonPrefix-comm, commonPrefix-append, commonPrefix-trans, commonPrefix-le-right, cancellation-commonPrefix, cancellation-self, freelyReduce-cancellation}
+use Rattle.systems.specs.Products.{Factor, factors, word, value, FreelyReduced}
 use Rattle.systems.specs.Moves.{Form, form₁, form₄, Move, made}
 use Rattle.systems.specs.Reduced.{size}
 use Rattle.systems.specs.Rules.{shortening, halfEnd, next, qualifies, runWithin}
 use Rattle.systems.proofs.Searching.{bool-cases, option-cases, and-true, and-left, and-right, true-not-false}
 use Rattle.systems.proofs.Factors.{factor-same, value-flip, value-length, value-irreducible, word-nonempty}
 use Rattle.systems.proofs.ProductLaws.{word-slot}
-use Rattle.systems.proofs.Undoing.{made-length, made-changed, made-others, made-tidy}
+use Rattle.systems.proofs.Undoing.{made-length, made-changed, made-others, made-freelyReduced}
 use Rattle.systems.proofs.Shortening.{AtMostHalf, shortening-none, shortening-allowed, shortening-shorter}
 use Rattle.systems.proofs.Halves.{begins-back-half}
 use Rattle.systems.proofs.HalfEnds.{Beginning, Qualified, Shortest, EndTaken, at-end, at-beginning, HalfEndMove, qualifies-qualified, qualified-qualifies, halfEnd-found, halfEnd-same-length}
@@ -78,7 +78,7 @@ bit-less : (s t : Bool) → (s ≡ true → ⊥) → t ≡ true → bit s < bit 
 bit-less true t n e = absurd (n refl)
 bit-less false t n e = rw e (omega arith)
 
-module _ {A : Type 0} (G : Letters A) where
+module _ {A : Type 0} (G : Alphabet A) where
   -- how many letters the words have in all
   abbrev letters : List (List A) → ℕ
   letters S = total (λ k. length (word G S k)) (length S)
@@ -89,7 +89,7 @@ module _ {A : Type 0} (G : Letters A) where
 
   -- whether an element of another slot begins with the inverse of the second half of slot h's word
   abbrev beginsLike : List (List A) → ℕ → Factor → Bool
-  beginsLike S h x = not (eqb (x .slot) h) && leb (length (word G S h) / 2) (common G (inverse G (word G S h)) (value G S x))
+  beginsLike S h x = not (eqb (x .slot) h) && leb (length (word G S h) / 2) (commonPrefix G (inverse G (word G S h)) (value G S x))
 
   -- how many do
   abbrev beginnings : List (List A) → ℕ → ℕ
@@ -101,9 +101,9 @@ module _ {A : Type 0} (G : Letters A) where
   -- the move with the first half; its other end and all other slots stay
   record Taken (S T : List (List A)) (h k : ℕ) (y : Factor) : Type 0 where
     pub at-k : y .slot ≡ k
-    pub before : length (word G S h) / 2 ≤ common G (inverse G (word G S h)) (value G S y)
-    pub after : length (word G S h) / 2 ≤ common G (word G S h) (value G T y)
-    pub behind : length (word G S h) / 2 ≤ common G (value G S (factors .flip y)) (value G T (factors .flip y))
+    pub before : length (word G S h) / 2 ≤ commonPrefix G (inverse G (word G S h)) (value G S y)
+    pub after : length (word G S h) / 2 ≤ commonPrefix G (word G S h) (value G T y)
+    pub behind : length (word G S h) / 2 ≤ commonPrefix G (value G S (factors .flip y)) (value G T (factors .flip y))
     pub rest : (x : Factor) → (x .slot ≡ k → ⊥) → value G T x ≡ value G S x
 
 same-or-not : (a b : Bool) → (a ≡ b) ⊎ (a ≡ not b)
@@ -119,47 +119,47 @@ either-end x y e = elim (same-or-not (x .inverted) (y .inverted)) [
   | inr s ↦ inr (factor-same x (factors .flip y) e s)
 ]
 
-module _ {A : Type 0} (G : Letters A) (L : LetterLaws G) where
+module _ {A : Type 0} (G : Alphabet A) (L : AlphabetLaws G) where
   -- two words of which just half of the first cancels
-  half-product : (w v : List A) (m : ℕ) → Irreducible G w → Irreducible G v → length w ≡ 2 * m → cancelled G w v ≡ m
-      → reduce G (w ++ v) ≡ take m w ++ drop m v
+  half-product : (w v : List A) (m : ℕ) → Irreducible G w → Irreducible G v → length w ≡ 2 * m → cancellation G w v ≡ m
+      → freelyReduce G (w ++ v) ≡ take m w ++ drop m v
   half-product w v m h k long e =
-      let rest : length w - cancelled G w v ≡ m = omega arith in
-      reduce-cancelled G L w v h k ∙ ap₂ (λ (i j : ℕ). take i w ++ drop j v) rest e
+      let rest : length w - cancellation G w v ≡ m = omega arith in
+      freelyReduce-cancellation G L w v h k ∙ ap₂ (λ (i j : ℕ). take i w ++ drop j v) rest e
 
-  half-front : (w v : List A) (m : ℕ) → m ≤ length w → m ≤ common G w (take m w ++ drop m v)
+  half-front : (w v : List A) (m : ℕ) → m ≤ length w → m ≤ commonPrefix G w (take m w ++ drop m v)
   half-front w v m le =
-      let split : common G (take m w ++ drop m w) (take m w ++ drop m v) ≡ length (take m w) + common G (drop m w) (drop m v) =
-      common-append G L (take m w) (drop m w) (drop m v) in
-      let whole : common G (take m w ++ drop m w) (take m w ++ drop m v) ≡ common G w (take m w ++ drop m v) =
-      ap (λ (u : List A). common G u (take m w ++ drop m v)) (take-append-drop m w) in
+      let split : commonPrefix G (take m w ++ drop m w) (take m w ++ drop m v) ≡ length (take m w) + commonPrefix G (drop m w) (drop m v) =
+      commonPrefix-append G L (take m w) (drop m w) (drop m v) in
+      let whole : commonPrefix G (take m w ++ drop m w) (take m w ++ drop m v) ≡ commonPrefix G w (take m w ++ drop m v) =
+      ap (λ (u : List A). commonPrefix G u (take m w ++ drop m v)) (take-append-drop m w) in
       omega (arith, split, whole, length-take m w)
 
-  half-behind : (w v : List A) (m : ℕ) → 2 * m ≤ length v → m ≤ common G (inverse G v) (inverse G (take m w ++ drop m v))
+  half-behind : (w v : List A) (m : ℕ) → 2 * m ≤ length v → m ≤ commonPrefix G (inverse G v) (inverse G (take m w ++ drop m v))
   half-behind w v m le =
       let back : List A = inverse G (drop m v) in
-      let split : common G (back ++ inverse G (take m v)) (back ++ inverse G (take m w)) ≡ length back + common G (inverse G (take m v)) (inverse G (take m w)) =
-      common-append G L back (inverse G (take m v)) (inverse G (take m w)) in
-      let whole : common G (inverse G v) (inverse G (take m w ++ drop m v)) ≡ common G (back ++ inverse G (take m v)) (back ++ inverse G (take m w)) =
-      ap₂ (common G) (inverse-split G L m v) (inverse-append G L (take m w) (drop m v)) in
+      let split : commonPrefix G (back ++ inverse G (take m v)) (back ++ inverse G (take m w)) ≡ length back + commonPrefix G (inverse G (take m v)) (inverse G (take m w)) =
+      commonPrefix-append G L back (inverse G (take m v)) (inverse G (take m w)) in
+      let whole : commonPrefix G (inverse G v) (inverse G (take m w ++ drop m v)) ≡ commonPrefix G (back ++ inverse G (take m v)) (back ++ inverse G (take m w)) =
+      ap₂ (commonPrefix G) (inverse-split G L m v) (inverse-append G L (take m w) (drop m v)) in
       omega (arith, split, whole, inverse-length G L (drop m v), length-drop m v)
 
-  module _ (S : List (List A)) (tidy : Tidy G S) (half : AtMostHalf G S) where
+  module _ (S : List (List A)) (freely : FreelyReduced G S) (half : AtMostHalf G S) where
     -- the product that a half-end move puts in place of an element
     taken-by : (h k : ℕ) (T : List (List A)) (y : Factor) → y .slot ≡ k → (k ≡ h → ⊥) → 0 < length (word G S h) → length (word G S h) % 2 ≡ 0
-        → length (word G S h) / 2 ≤ common G (inverse G (word G S h)) (value G S y) → value G T y ≡ reduce G (word G S h ++ value G S y)
+        → length (word G S h) / 2 ≤ commonPrefix G (inverse G (word G S h)) (value G S y) → value G T y ≡ freelyReduce G (word G S h ++ value G S y)
         → ((x : Factor) → (x .slot ≡ k → ⊥) → value G T x ≡ value G S x) → Taken G S T h k y
     taken-by h k T y at apart filled even before product rest =
         let w : List A = word G S h in
         let v : List A = value G S y in
         let m : ℕ = length w / 2 in
         let x : Factor = record { slot = h; inverted = false } in
-        let count : cancelled G w v ≡ common G (inverse G w) v = cancelled-common G L w v in
-        let long : 0 < length (word G S (y .slot)) = omega (arith, before, filled, even, common-le-right G L (inverse G w) v, value-length G L S y) in
+        let count : cancellation G w v ≡ commonPrefix G (inverse G w) v = cancellation-commonPrefix G L w v in
+        let long : 0 < length (word G S (y .slot)) = omega (arith, before, filled, even, commonPrefix-le-right G L (inverse G w) v, value-length G L S y) in
         let most = half x y (word-nonempty w filled) (word-nonempty (word G S (y .slot)) long) (λ e. apart (sym at ∙ sym e)) in
-        let just : cancelled G w v ≡ m = omega (arith, most .0, before, count, even) in
+        let just : cancellation G w v ≡ m = omega (arith, most .0, before, count, even) in
         let new : value G T y ≡ take m w ++ drop m v =
-        product ∙ half-product w v m (tidy h) (value-irreducible G L S y (tidy (y .slot))) (omega (arith, even)) just in
+        product ∙ half-product w v m (freely h) (value-irreducible G L S y (freely (y .slot))) (omega (arith, even)) just in
         record {
           at-k = at;
           before = before;
@@ -178,9 +178,9 @@ module _ {A : Type 0} (G : Letters A) (L : LetterLaws G) where
         let m : Move = record { changed = k; form = form₄; other = h } in
         let w : List A = word G S h in
         let v : List A = word G S k in
-        let product : inverse G (word G (made G S m) k) ≡ reduce G (w ++ inverse G v) =
-        ap (inverse G) (made-changed G S m inside) ∙ sym (reduce-inverse G L (v ++ inverse G w))
-        ∙ ap (reduce G) (inverse-append G L v (inverse G w) ∙ ap (λ (u : List A). u ++ inverse G v) (inverse-twice G L w)) in
+        let product : inverse G (word G (made G S m) k) ≡ freelyReduce G (w ++ inverse G v) =
+        ap (inverse G) (made-changed G S m inside) ∙ sym (freelyReduce-inverse G L (v ++ inverse G w))
+        ∙ ap (freelyReduce G) (inverse-append G L v (inverse G w) ∙ ap (λ (u : List A). u ++ inverse G v) (inverse-twice G L w)) in
         let y : Factor = record { slot = k; inverted = true } in
         (y, taken-by h k (made G S m) y refl apart filled even (begins-back-half G L w (inverse G v) even .0 t) product (made-rest m))
     taken-made h k inside apart filled even (at-beginning d t) =
@@ -215,32 +215,32 @@ module _ {A : Type 0} (G : Letters A) (L : LetterLaws G) where
             record {
               element = record { slot = h; inverted = true };
               apart = λ q. away (sym q);
-              agrees = rw e (omega (arith, t .before, common-comm G L (inverse G (word G S h)) (value G S y)));
+              agrees = rw e (omega (arith, t .before, commonPrefix-comm G L (inverse G (word G S h)) (value G S y)));
             }
         changed at (inr e) =
-            let told : j ≤ common G (value G T (factors .flip y)) (value G S (b .element)) = rw (e, same-rest at) at (b .agrees) in
+            let told : j ≤ commonPrefix G (value G T (factors .flip y)) (value G S (b .element)) = rw (e, same-rest at) at (b .agrees) in
             record {
               element = b .element;
               apart = b .apart;
-              agrees = rw e (common-trans G L j (value G S (factors .flip y)) (value G T (factors .flip y)) (value G S (b .element)) (omega (arith, t .behind)) told);
+              agrees = rw e (commonPrefix-trans G L j (value G S (factors .flip y)) (value G T (factors .flip y)) (value G S (b .element)) (omega (arith, t .behind)) told);
             }
 
         unchanged : (z .slot ≡ k → ⊥) → (b .element ≡ y) ⊎ (b .element ≡ factors .flip y) → Beginning G S (z .slot) j (value G S z)
         unchanged off (inl e) =
-            let told : j ≤ common G (value G S z) (value G T y) = rw (e, t .rest z off) at (b .agrees) in
+            let told : j ≤ commonPrefix G (value G S z) (value G T y) = rw (e, t .rest z off) at (b .agrees) in
             record {
               element = record { slot = h; inverted = false };
               apart = λ q. away (sym q);
-              agrees = common-trans G L j (value G S z) (value G T y) (word G S h) told
-                  (omega (arith, t .after, common-comm G L (word G S h) (value G T y)));
+              agrees = commonPrefix-trans G L j (value G S z) (value G T y) (word G S h) told
+                  (omega (arith, t .after, commonPrefix-comm G L (word G S h) (value G T y)));
             }
         unchanged off (inr e) =
-            let told : j ≤ common G (value G S z) (value G T (factors .flip y)) = rw (e, t .rest z off) at (b .agrees) in
+            let told : j ≤ commonPrefix G (value G S z) (value G T (factors .flip y)) = rw (e, t .rest z off) at (b .agrees) in
             record {
               element = factors .flip y;
               apart = λ q. off (sym q ∙ t .at-k);
-              agrees = common-trans G L j (value G S z) (value G T (factors .flip y)) (value G S (factors .flip y)) told
-                  (omega (arith, t .behind, common-comm G L (value G S (factors .flip y)) (value G T (factors .flip y))));
+              agrees = commonPrefix-trans G L j (value G S z) (value G T (factors .flip y)) (value G S (factors .flip y)) told
+                  (omega (arith, t .behind, commonPrefix-comm G L (value G S (factors .flip y)) (value G T (factors .flip y))));
             }
 
     module _ (same : (j : ℕ) → length (word G T j) ≡ length (word G S j)) where
@@ -289,56 +289,56 @@ module _ {A : Type 0} (G : Letters A) (L : LetterLaws G) where
             let less = total-less now past (length T) h (omega (arith, long)) here (λ j l. bit-le _ _ (still-qualifying chosen j)) in
             omega (arith, less, ap (total past) long)
 
-    module _ (moves : (x : A) → G .flip x ≡ x → ⊥) (tidy : Tidy G S) (filled : 0 < length (word G S h)) (even : length (word G S h) % 2 ≡ 0) where
+    module _ (noOwnInverse : (x : A) → G .flip x ≡ x → ⊥) (freely : FreelyReduced G S) (filled : 0 < length (word G S h)) (even : length (word G S h) % 2 ≡ 0) where
       same-word : word G T h ≡ word G S h
       same-word = t .rest (record { slot = h; inverted = false }) (λ e. apart (sym e))
 
       -- the element that the move changed does not begin with the inverse of the second half any more
-      no-longer-like : length (word G S h) / 2 ≤ common G (inverse G (word G S h)) (value G T y) → ⊥
+      no-longer-like : length (word G S h) / 2 ≤ commonPrefix G (inverse G (word G S h)) (value G T y) → ⊥
       no-longer-like le =
           let m : ℕ = length (word G S h) / 2 in
-          let self : m ≤ common G (inverse G (word G S h)) (word G S h) =
-          common-trans G L m (inverse G (word G S h)) (value G T y) (word G S h) le
-          (omega (arith, t .after, common-comm G L (word G S h) (value G T y))) in
+          let self : m ≤ commonPrefix G (inverse G (word G S h)) (word G S h) =
+          commonPrefix-trans G L m (inverse G (word G S h)) (value G T y) (word G S h) le
+          (omega (arith, t .after, commonPrefix-comm G L (word G S h) (value G T y))) in
           omega (
             arith,
             self,
             even,
-            cancelled-common G L (word G S h) (word G S h),
-            cancelled-self G L moves (word G S h) (tidy h) filled,
+            cancellation-commonPrefix G L (word G S h) (word G S h),
+            cancellation-self G L noOwnInverse (word G S h) (freely h) filled,
           )
 
-      still-like : (x : Factor) → length (word G S h) / 2 ≤ common G (inverse G (word G S h)) (value G T x)
-          → length (word G S h) / 2 ≤ common G (inverse G (word G S h)) (value G S x)
+      still-like : (x : Factor) → length (word G S h) / 2 ≤ commonPrefix G (inverse G (word G S h)) (value G T x)
+          → length (word G S h) / 2 ≤ commonPrefix G (inverse G (word G S h)) (value G S x)
       still-like x le = elim (ℕ-discrete (x .slot) k) [
         | no far ↦ rw (t .rest x far) at le
         | yes at ↦ elim (either-end x y (at ∙ sym (t .at-k))) [
           | inl e ↦ absurd (no-longer-like (rw e at le))
           | inr e ↦
-              let told : length (word G S h) / 2 ≤ common G (inverse G (word G S h)) (value G T (factors .flip y)) = rw e at le in
-              rw e (common-trans G L (length (word G S h) / 2) (inverse G (word G S h)) (value G T (factors .flip y)) (value G S (factors .flip y)) told
-              (omega (arith, t .behind, common-comm G L (value G S (factors .flip y)) (value G T (factors .flip y)))))
+              let told : length (word G S h) / 2 ≤ commonPrefix G (inverse G (word G S h)) (value G T (factors .flip y)) = rw e at le in
+              rw e (commonPrefix-trans G L (length (word G S h) / 2) (inverse G (word G S h)) (value G T (factors .flip y)) (value G S (factors .flip y)) told
+              (omega (arith, t .behind, commonPrefix-comm G L (value G S (factors .flip y)) (value G T (factors .flip y)))))
         ]
       ]
 
       like-told : (x : Factor) → beginsLike G T h x ≡ true
-          → (not (eqb (x .slot) h) ≡ true) × (length (word G S h) / 2 ≤ common G (inverse G (word G S h)) (value G T x))
+          → (not (eqb (x .slot) h) ≡ true) × (length (word G S h) / 2 ≤ commonPrefix G (inverse G (word G S h)) (value G T x))
       like-told x e =
-          let told : leb (length (word G T h) / 2) (common G (inverse G (word G T h)) (value G T x)) ≡ true =
-          and-right (not (eqb (x .slot) h)) (leb (length (word G T h) / 2) (common G (inverse G (word G T h)) (value G T x))) e in (
-            and-left (not (eqb (x .slot) h)) (leb (length (word G T h) / 2) (common G (inverse G (word G T h)) (value G T x))) e,
-            rw same-word at (leb-true (length (word G T h) / 2) (common G (inverse G (word G T h)) (value G T x)) told),
+          let told : leb (length (word G T h) / 2) (commonPrefix G (inverse G (word G T h)) (value G T x)) ≡ true =
+          and-right (not (eqb (x .slot) h)) (leb (length (word G T h) / 2) (commonPrefix G (inverse G (word G T h)) (value G T x))) e in (
+            and-left (not (eqb (x .slot) h)) (leb (length (word G T h) / 2) (commonPrefix G (inverse G (word G T h)) (value G T x))) e,
+            rw same-word at (leb-true (length (word G T h) / 2) (commonPrefix G (inverse G (word G T h)) (value G T x)) told),
           )
 
       still-begins : (x : Factor) → beginsLike G T h x ≡ true → beginsLike G S h x ≡ true
       still-begins x e =
           let told = like-told x e in
-          and-true (not (eqb (x .slot) h)) (leb (length (word G S h) / 2) (common G (inverse G (word G S h)) (value G S x))) (told .0)
+          and-true (not (eqb (x .slot) h)) (leb (length (word G S h) / 2) (commonPrefix G (inverse G (word G S h)) (value G S x))) (told .0)
           (le-leb _ _ (still-like x (told .1)))
 
       changed-began : beginsLike G S h y ≡ true
       changed-began =
-          and-true (not (eqb (y .slot) h)) (leb (length (word G S h) / 2) (common G (inverse G (word G S h)) (value G S y)))
+          and-true (not (eqb (y .slot) h)) (leb (length (word G S h) / 2) (commonPrefix G (inverse G (word G S h)) (value G S y)))
           (ap not (ne-eqb (y .slot) h (λ e. apart (sym (t .at-k) ∙ e)))) (le-leb _ _ (t .before))
 
       changed-begins : beginsLike G T h y ≡ true → ⊥
@@ -369,7 +369,7 @@ module _ {A : Type 0} (G : Letters A) (L : LetterLaws G) where
           strictly false e = omega (arith, less (record { slot = k; inverted = false }) (here false e), side k true)
           strictly true e = omega (arith, less (record { slot = k; inverted = true }) (here true e), side k false)
 
-  module _ (moves : (x : A) → G .flip x ≡ x → ⊥) where
+  module _ (noOwnInverse : (x : A) → G .flip x ≡ x → ⊥) where
     -- a run comes to its end
     abbrev pub Ends : List (List A) → Type 0
     Ends S = (n : ℕ) × (next G (runWithin G n S) ≡ none)
@@ -381,14 +381,14 @@ module _ {A : Type 0} (G : Letters A) (L : LetterLaws G) where
     abbrev AtLeast : ℕ → List (List A) → Type 0
     AtLeast size S = (j : ℕ) → Qualified G S j → size ≤ length (word G S j)
 
-    fewer-letters : (S : List (List A)) (m : Move) → Tidy G S → shortening G S ≡ some m → letters G (made G S m) < letters G S
-    fewer-letters S m tidy e =
+    fewer-letters : (S : List (List A)) (m : Move) → FreelyReduced G S → shortening G S ≡ some m → letters G (made G S m) < letters G S
+    fewer-letters S m freely e =
         let T : List (List A) = made G S m in
         let now : ℕ → ℕ = λ j. length (word G T j) in
         let past : ℕ → ℕ = λ j. length (word G S j) in
-        let inside : m .changed < length S = shortening-allowed G L S tidy m e .changed-inside in
+        let inside : m .changed < length S = shortening-allowed G L S freely m e .changed-inside in
         let here : now (m .changed) < past (m .changed) =
-        omega (arith, shortening-shorter G L S tidy m e, ap length (made-changed G S m inside)) in
+        omega (arith, shortening-shorter G L S freely m e, ap length (made-changed G S m inside)) in
         let weakly : (j : ℕ) → j < length T → now j ≤ past j = λ j l. elim (ℕ-discrete j (m .changed)) [
           | yes p ↦ rw p (omega (arith, here))
           | no p ↦ omega (arith, ap length (made-others G S m j p))
@@ -397,7 +397,7 @@ module _ {A : Type 0} (G : Letters A) (L : LetterLaws G) where
         omega (arith, less, ap (total past) (made-length G S m))
 
     -- what a half-end move leads to
-    module _ (S : List (List A)) (m : Move) (tidy : Tidy G S) (nothing : shortening G S ≡ none) (e : halfEnd G S ≡ some m) where
+    module _ (S : List (List A)) (m : Move) (freely : FreelyReduced G S) (nothing : shortening G S ≡ none) (e : halfEnd G S ≡ some m) where
       found : HalfEndMove G S m
       found = halfEnd-found G L S m e
 
@@ -405,14 +405,14 @@ module _ {A : Type 0} (G : Letters A) (L : LetterLaws G) where
       chosen = qualifies-qualified G L S (m .other) (found .shortest .chosen)
 
       half : AtMostHalf G S
-      half = shortening-none G L S tidy .0 nothing
+      half = shortening-none G L S freely .0 nothing
 
       taken : (y : Factor) × Taken G S (made G S m) (m .other) (m .changed) y
-      taken = taken-made S tidy half (m .other) (m .changed) (found .inside) (found .distinct) (chosen .not-blank) (chosen .even) (found .taken)
+      taken = taken-made S freely half (m .other) (m .changed) (found .inside) (found .distinct) (chosen .not-blank) (chosen .even) (found .taken)
 
       same-length : (j : ℕ) → length (word G (made G S m) j) ≡ length (word G S j)
       same-length j = elim (ℕ-discrete j (m .changed)) [
-        | yes p ↦ rw p (ap length (made-changed G S m (found .inside)) ∙ halfEnd-same-length G L S tidy half m e)
+        | yes p ↦ rw p (ap length (made-changed G S m (found .inside)) ∙ halfEnd-same-length G L S freely half m e)
         | no p ↦ ap length (made-others G S m j p)
       ]
 
@@ -457,21 +457,21 @@ module _ {A : Type 0} (G : Letters A) (L : LetterLaws G) where
       -- a run ends that makes this half-end move next, if every run does with no more letters and fewer qualifying words of that length, or no
       -- more of them and fewer beginnings
       half-step : AtLeast (length (word G S (m .other))) S
-          → ((T : List (List A)) → Tidy G T → letters G T ≤ letters G S → AtLeast (length (word G S (m .other))) T
+          → ((T : List (List A)) → FreelyReduced G T → letters G T ≤ letters G S → AtLeast (length (word G S (m .other))) T
           → qualifying G (length (word G S (m .other))) T < qualifying G (length (word G S (m .other))) S → Ends T)
-          → ((T : List (List A)) → Tidy G T → letters G T ≤ letters G S → AtLeast (length (word G S (m .other))) T
+          → ((T : List (List A)) → FreelyReduced G T → letters G T ≤ letters G S → AtLeast (length (word G S (m .other))) T
           → qualifying G (length (word G S (m .other))) T ≤ qualifying G (length (word G S (m .other))) S
           → ((h : ℕ) → Shortest G T (length T) h → beginnings G T h < beginnings G S (m .other)) → Ends T)
           → Ends S
       half-step least fewer again =
           let T : List (List A) = made G S m in
-          let T-tidy : Tidy G T = made-tidy G L S m tidy in
+          let T-tidy : FreelyReduced G T = made-freelyReduced G L S m freely in
           let long : length T ≡ length S = made-length G S m in
           ends-more S m (next-halfEnd G S nothing ∙ e) (elim (bool-cases (qualifies G T (m .other))) [
             | inl t ↦ again T T-tidy no-more-letters (at-least-after least)
                 (no-more-words S T (m .other) (m .changed) (taken .0) (taken .1) (found .distinct) same-length chosen long)
                 (λ h s. rw (still-chosen t h s)
-                (fewer-beginnings S T (m .other) (m .changed) (taken .0) (taken .1) (found .distinct) moves tidy (chosen .not-blank) (chosen .even) (found .inside) long))
+                (fewer-beginnings S T (m .other) (m .changed) (taken .0) (taken .1) (found .distinct) noOwnInverse freely (chosen .not-blank) (chosen .even) (found .inside) long))
             | inr t ↦ fewer T T-tidy no-more-letters (at-least-after least)
                 (fewer-words S T (m .other) (m .changed) (taken .0) (taken .1) (found .distinct) same-length chosen long (found .shortest .below)
                 (λ u. true-not-false (qualifies G T (m .other)) u t))
@@ -497,63 +497,63 @@ module _ {A : Type 0} (G : Letters A) (L : LetterLaws G) where
         ))
 
     -- a run ends if it does after a shortening, and after a half-end move
-    ends-next : (S : List (List A)) → Tidy G S → ((T : List (List A)) → Tidy G T → letters G T < letters G S → Ends T)
+    ends-next : (S : List (List A)) → FreelyReduced G S → ((T : List (List A)) → FreelyReduced G T → letters G T < letters G S → Ends T)
         → ((m : Move) → shortening G S ≡ none → halfEnd G S ≡ some m → Ends S) → Ends S
-    ends-next S tidy shorter half-end = elim (option-cases (next G S)) [
+    ends-next S freely shorter half-end = elim (option-cases (next G S)) [
       | inl e ↦ (0, e)
       | inr r ↦ elim (next-from G S r.0 r.1) [
-        | inl s ↦ ends-more S r.0 r.1 (shorter (made G S r.0) (made-tidy G L S r.0 tidy) (fewer-letters S r.0 tidy s))
+        | inl s ↦ ends-more S r.0 r.1 (shorter (made G S r.0) (made-freelyReduced G L S r.0 freely) (fewer-letters S r.0 freely s))
         | inr s ↦ half-end r.0 s.0 s.1
       ]
     ]
 
-    module _ (most : ℕ) (shorter : (T : List (List A)) → Tidy G T → letters G T < most → Ends T) where
-      module _ (size : ℕ) (longer : (T : List (List A)) → Tidy G T → letters G T ≤ most → AtLeast (suc size) T → Ends T) where
+    module _ (most : ℕ) (shorter : (T : List (List A)) → FreelyReduced G T → letters G T < most → Ends T) where
+      module _ (size : ℕ) (longer : (T : List (List A)) → FreelyReduced G T → letters G T ≤ most → AtLeast (suc size) T → Ends T) where
         module _ (count : ℕ)
-            (fewer : (T : List (List A)) → Tidy G T → letters G T ≤ most → AtLeast size T → qualifying G size T < count → Ends T) where
+            (fewer : (T : List (List A)) → FreelyReduced G T → letters G T ≤ most → AtLeast size T → qualifying G size T < count → Ends T) where
           -- by the number of beginnings
-          by-beginnings : (bound : ℕ) (S : List (List A)) → Tidy G S → letters G S ≤ most → AtLeast size S → qualifying G size S ≤ count
+          by-beginnings : (bound : ℕ) (S : List (List A)) → FreelyReduced G S → letters G S ≤ most → AtLeast size S → qualifying G size S ≤ count
               → ((h : ℕ) → Shortest G S (length S) h → beginnings G S h < bound) → Ends S
-          by-beginnings zero S tidy few least words begun = ends-next S tidy (λ T t l. shorter T t (omega arith))
-              (λ m n e. absurd (omega (arith, begun (m .other) (found S m tidy n e .shortest))))
-          by-beginnings (suc bound) S tidy few least words begun = ends-next S tidy (λ T t l. shorter T t (omega arith)) (at-half-end (by-beginnings bound))
+          by-beginnings zero S freely few least words begun = ends-next S freely (λ T t l. shorter T t (omega arith))
+              (λ m n e. absurd (omega (arith, begun (m .other) (found S m freely n e .shortest))))
+          by-beginnings (suc bound) S freely few least words begun = ends-next S freely (λ T t l. shorter T t (omega arith)) (at-half-end (by-beginnings bound))
             where
-              at-half-end : ((T : List (List A)) → Tidy G T → letters G T ≤ most → AtLeast size T → qualifying G size T ≤ count
+              at-half-end : ((T : List (List A)) → FreelyReduced G T → letters G T ≤ most → AtLeast size T → qualifying G size T ≤ count
                   → ((h : ℕ) → Shortest G T (length T) h → beginnings G T h < bound) → Ends T)
                   → (m : Move) → shortening G S ≡ none → halfEnd G S ≡ some m → Ends S
               at-half-end again m n e = elim (decLt size (length (word G S (m .other)))) [
-                | yes l ↦ longer S tidy few (λ j q. omega (arith, l, chosen-least S m tidy n e j q))
+                | yes l ↦ longer S freely few (λ j q. omega (arith, l, chosen-least S m freely n e j q))
                 | no l ↦
-                    let p : length (word G S (m .other)) ≡ size = omega (arith, least (m .other) (chosen S m tidy n e)) in
-                    half-step S m tidy n e (chosen-least S m tidy n e)
+                    let p : length (word G S (m .other)) ≡ size = omega (arith, least (m .other) (chosen S m freely n e)) in
+                    half-step S m freely n e (chosen-least S m freely n e)
                     (λ T t b a w.
                     let w′ : qualifying G size T < qualifying G size S = rw p at w in
                     fewer T t (omega arith) (rw p at a) (omega arith))
                     (λ T t b a w c.
                     let w′ : qualifying G size T ≤ qualifying G size S = rw p at w in
                     again T t (omega arith) (rw p at a) (omega arith)
-                    (λ h s. omega (arith, c h s, begun (m .other) (found S m tidy n e .shortest))))
+                    (λ h s. omega (arith, c h s, begun (m .other) (found S m freely n e .shortest))))
               ]
 
         -- by the number of qualifying words of one length
-        by-words : (count : ℕ) (S : List (List A)) → Tidy G S → letters G S ≤ most → AtLeast size S → qualifying G size S < count → Ends S
-        by-words zero S tidy few least words = absurd (omega arith)
-        by-words (suc count) S tidy few least words =
-            by-beginnings count (by-words count) (suc (2 * length S)) S tidy few least (omega arith) (λ h s. omega (arith, beginnings-few S h))
+        by-words : (count : ℕ) (S : List (List A)) → FreelyReduced G S → letters G S ≤ most → AtLeast size S → qualifying G size S < count → Ends S
+        by-words zero S freely few least words = absurd (omega arith)
+        by-words (suc count) S freely few least words =
+            by-beginnings count (by-words count) (suc (2 * length S)) S freely few least (omega arith) (λ h s. omega (arith, beginnings-few S h))
 
       -- by that length
-      by-length : (left size : ℕ) (S : List (List A)) → Tidy G S → letters G S ≤ most → most < size + left → AtLeast size S → Ends S
-      by-length zero size S tidy few enough least = ends-next S tidy (λ T t l. shorter T t (omega arith))
-          (λ m n e. absurd (omega (arith, enough, few, least (m .other) (chosen S m tidy n e), chosen-within S m tidy n e)))
-      by-length (suc left) size S tidy few enough least =
-          by-words size (λ T t b a. by-length left (suc size) T t b (omega arith) a) (suc (qualifying G size S)) S tidy few least (omega arith)
+      by-length : (left size : ℕ) (S : List (List A)) → FreelyReduced G S → letters G S ≤ most → most < size + left → AtLeast size S → Ends S
+      by-length zero size S freely few enough least = ends-next S freely (λ T t l. shorter T t (omega arith))
+          (λ m n e. absurd (omega (arith, enough, few, least (m .other) (chosen S m freely n e), chosen-within S m freely n e)))
+      by-length (suc left) size S freely few enough least =
+          by-words size (λ T t b a. by-length left (suc size) T t b (omega arith) a) (suc (qualifying G size S)) S freely few least (omega arith)
 
     -- by the number of letters
-    by-letters : (most : ℕ) (S : List (List A)) → Tidy G S → letters G S < most → Ends S
-    by-letters zero S tidy few = absurd (omega arith)
-    by-letters (suc most) S tidy few =
-        by-length most (by-letters most) (suc most) 0 S tidy (omega arith) (omega arith) (λ j q. omega arith)
+    by-letters : (most : ℕ) (S : List (List A)) → FreelyReduced G S → letters G S < most → Ends S
+    by-letters zero S freely few = absurd (omega arith)
+    by-letters (suc most) S freely few =
+        by-length most (by-letters most) (suc most) 0 S freely (omega arith) (omega arith) (λ j q. omega arith)
 
     -- "Then repeat until neither rule applies": every run does
-    pub every-run-ends : (S : List (List A)) → Tidy G S → Ends S
-    every-run-ends S tidy = by-letters (suc (letters G S)) S tidy (omega arith)
+    pub every-run-ends : (S : List (List A)) → FreelyReduced G S → Ends S
+    every-run-ends S freely = by-letters (suc (letters G S)) S freely (omega arith)

@@ -8,14 +8,14 @@ use native.Mathlib.Nat.{zero-add, add-zero, add-suc, suc-add}
 use native.Mathlib.Omega.{arith}
 use lib.ListN.{length, getD, set, length-map, List·getD-map}
 use lib.Seq.{ext-getD}
-use Rattle.words.specs.Letters.{Letters}
-use Rattle.words.specs.Words.{reduce, inverse}
-use Rattle.words.proofs.Letters.{LetterLaws}
-use Rattle.words.proofs.Reduction.{reduce-irreducible, reduce-same, reduce-twice, reduce-both, reduce-right}
-use Rattle.words.proofs.Inverse.{reduce-inverse}
-use Rattle.systems.specs.Products.{Factor, factors, word, value, spelled, multiplied, Generated, Equivalent, Tidy}
+use Rattle.words.specs.Alphabet.{Alphabet}
+use Rattle.words.specs.Words.{freelyReduce, inverse}
+use Rattle.words.proofs.Alphabet.{AlphabetLaws}
+use Rattle.words.proofs.FreeReduction.{freelyReduce-irreducible, freelyReduce-same, freelyReduce-twice, freelyReduce-both, freelyReduce-right}
+use Rattle.words.proofs.Inverse.{freelyReduce-inverse}
+use Rattle.systems.specs.Products.{Factor, factors, word, value, spelled, multiplied, Generated, Equivalent, FreelyReduced}
 use Rattle.systems.specs.Moves.{Form, form₁, form₂, form₃, form₄, Move, formed, made, madeAll}
-use Rattle.systems.proofs.ProductLaws.{multiplied-append, multiplied-inverse, multiplied-reduce, overWords-over, unblanked}
+use Rattle.systems.proofs.ProductLaws.{multiplied-append, multiplied-inverse, multiplied-freelyReduce, overWords-over, unblanked}
 use Rattle.systems.proofs.Undoing.{Apart, AllApart, back, madeAll-length, madeAll-undone, undoneAll-back}
 
 map-set : {A B : Type 0} (φ : B → A) (l : List B) (i : ℕ) (b : B) → map φ (set l i b) ≡ set (map φ l) i (φ b)
@@ -24,13 +24,13 @@ map-set φ (x ∷ l) zero b = refl
 map-set φ (x ∷ l) (suc i) b = ap (_∷_ (φ x)) (map-set φ l i b)
 
 -- a homomorphism: a map of words that goes with products, inverses and free reduction
-record Homomorphism {A B : Type 0} (H : Letters B) (G : Letters A) (φ : List B → List A) : Type 0 where
+record Homomorphism {A B : Type 0} (H : Alphabet B) (G : Alphabet A) (φ : List B → List A) : Type 0 where
   empty : φ [] ≡ []
-  product : (u v : List B) → φ (u ++ v) ≡ reduce G (φ u ++ φ v)
+  product : (u v : List B) → φ (u ++ v) ≡ freelyReduce G (φ u ++ φ v)
   inverted : (u : List B) → φ (inverse H u) ≡ inverse G (φ u)
-  reduced : (u : List B) → φ (reduce H u) ≡ φ u
+  reduced : (u : List B) → φ (freelyReduce H u) ≡ φ u
 
-module _ {A B : Type 0} (H : Letters B) (G : Letters A) (L : LetterLaws G) (φ : List B → List A) (M : Homomorphism H G φ) where
+module _ {A B : Type 0} (H : Alphabet B) (G : Alphabet A) (L : AlphabetLaws G) (φ : List B → List A) (M : Homomorphism H G φ) where
   open Homomorphism M using (empty, product, inverted, reduced)
 
   map-word : (E : List (List B)) (k : ℕ) → word G (map φ E) k ≡ φ (word H E k)
@@ -46,9 +46,9 @@ module _ {A B : Type 0} (H : Letters B) (G : Letters A) (L : LetterLaws G) (φ :
   -- a product over the words' images
   map-multiplied : (E : List (List B)) (p : List Factor) → multiplied G (map φ E) p ≡ φ (spelled H E p)
   map-multiplied E [] = sym empty
-  map-multiplied E (f ∷ p) = rw (product, ← map-value E f, ← map-multiplied E p) (reduce-right G L (value G (map φ E) f) (spelled G (map φ E) p))
+  map-multiplied E (f ∷ p) = rw (product, ← map-value E f, ← map-multiplied E p) (freelyReduce-right G L (value G (map φ E) f) (spelled G (map φ E) p))
 
-  map-formed : (form : Form) (u v : List B) → φ (formed H form u v) ≡ reduce G (formed G form (φ u) (φ v))
+  map-formed : (form : Form) (u v : List B) → φ (formed H form u v) ≡ freelyReduce G (formed G form (φ u) (φ v))
   map-formed form₁ u v = product u v
   map-formed form₂ u v = rw (product, inverted)
   map-formed form₃ u v = product v u
@@ -97,10 +97,10 @@ before n ms p = spelled factors (madeAll factors (slotLetters n) ms) p
 abbrev pub after : ℕ → List Move → List Factor → List Factor
 after n ms p = before n (back ms) p
 
-module _ {A : Type 0} (G : Letters A) (L : LetterLaws G) where
-  reduce-homomorphism : Homomorphism G G (reduce G)
-  reduce-homomorphism =
-      record { empty = refl; product = reduce-both G L; inverted = reduce-inverse G L; reduced = reduce-twice G L }
+module _ {A : Type 0} (G : Alphabet A) (L : AlphabetLaws G) where
+  freelyReduce-homomorphism : Homomorphism G G (freelyReduce G)
+  freelyReduce-homomorphism =
+      record { empty = refl; product = freelyReduce-both G L; inverted = freelyReduce-inverse G L; reduced = freelyReduce-twice G L }
 
   multiplied-homomorphism : (S : List (List A)) → Homomorphism factors G (multiplied G S)
   multiplied-homomorphism S =
@@ -108,28 +108,28 @@ module _ {A : Type 0} (G : Letters A) (L : LetterLaws G) where
         empty = refl;
         product = multiplied-append G L S;
         inverted = multiplied-inverse G L S;
-        reduced = multiplied-reduce G L S;
+        reduced = multiplied-freelyReduce G L S;
       }
 
-  pub reduced-word : (S : List (List A)) (k : ℕ) → word G (map (reduce G) S) k ≡ reduce G (word G S k)
-  reduced-word S k = List·getD-map (reduce G) S k []
+  pub reduced-word : (S : List (List A)) (k : ℕ) → word G (map (freelyReduce G) S) k ≡ freelyReduce G (word G S k)
+  reduced-word S k = List·getD-map (freelyReduce G) S k []
 
-  pub reduced-tidy : (S : List (List A)) → Tidy G (map (reduce G) S)
-  reduced-tidy S k = rw (reduced-word S k) (reduce-irreducible G L (word G S k))
+  pub words-freelyReduced : (S : List (List A)) → FreelyReduced G (map (freelyReduce G) S)
+  words-freelyReduced S k = rw (reduced-word S k) (freelyReduce-irreducible G L (word G S k))
 
   -- a tidy system's words are as free reduction leaves them
-  pub tidy-reduced : (S : List (List A)) → Tidy G S → map (reduce G) S ≡ S
-  tidy-reduced S h = ext-getD [] (map (reduce G) S) S (length-map S (reduce G))
-      (λ k q. reduced-word S k ∙ reduce-same G L (word G S k) (h k))
+  pub tidy-reduced : (S : List (List A)) → FreelyReduced G S → map (freelyReduce G) S ≡ S
+  tidy-reduced S h = ext-getD [] (map (freelyReduce G) S) S (length-map S (freelyReduce G))
+      (λ k q. reduced-word S k ∙ freelyReduce-same G L (word G S k) (h k))
 
   -- a product of the given words and of the freely reduced ones comes to the same word
-  pub reduced-multiplied : (S : List (List A)) (p : List Factor) → multiplied G (map (reduce G) S) p ≡ multiplied G S p
-  reduced-multiplied S p = map-multiplied G G L (reduce G) reduce-homomorphism S p
+  pub reduced-multiplied : (S : List (List A)) (p : List Factor) → multiplied G (map (freelyReduce G) S) p ≡ multiplied G S p
+  reduced-multiplied S p = map-multiplied G G L (freelyReduce G) freelyReduce-homomorphism S p
 
   -- each slot's letter, taken for its word
-  slotLetters-multiplied : (S : List (List A)) → map (multiplied G S) (slotLetters (length S)) ≡ map (reduce G) S
-  slotLetters-multiplied S = ext-getD [] (map (multiplied G S) (slotLetters (length S))) (map (reduce G) S)
-      (length-map (slotLetters (length S)) (multiplied G S) ∙ slotLetters-length (length S) ∙ sym (length-map S (reduce G)))
+  slotLetters-multiplied : (S : List (List A)) → map (multiplied G S) (slotLetters (length S)) ≡ map (freelyReduce G) S
+  slotLetters-multiplied S = ext-getD [] (map (multiplied G S) (slotLetters (length S))) (map (freelyReduce G) S)
+      (length-map (slotLetters (length S)) (multiplied G S) ∙ slotLetters-length (length S) ∙ sym (length-map S (freelyReduce G)))
       (λ k q.
       let h : k < length S = rw (length-map, slotLetters-length) at q in
       List·getD-map (multiplied G S) (slotLetters (length S)) k [] ∙ rw (slotLetters-word (length S) k h, append-nil) (sym (reduced-word S k)))
@@ -139,48 +139,42 @@ module _ {A : Type 0} (G : Letters A) (L : LetterLaws G) where
       → multiplied G (madeAll G S ms) p ≡ multiplied G S (before (length S) ms p)
   multiplied-before S ms p = sym (reduced-multiplied (madeAll G S ms) p)
       ∙ ap (λ (T : List (List A)). multiplied G T p)
-      (map-madeAll G G L (reduce G) reduce-homomorphism S ms
+      (map-madeAll G G L (freelyReduce G) freelyReduce-homomorphism S ms
       ∙ ap (λ (T : List (List A)). madeAll G T ms) (sym (slotLetters-multiplied S))
       ∙ sym (map-madeAll factors G L (multiplied G S) (multiplied-homomorphism S) (slotLetters (length S)) ms))
       ∙ map-multiplied factors G L (multiplied G S) (multiplied-homomorphism S) (madeAll factors (slotLetters (length S)) ms) p
 
   -- and a product over the words before them the same as the one after
-  pub multiplied-after : (S : List (List A)) (ms : List Move) (p : List Factor) → Tidy G S → AllApart ms
+  pub multiplied-after : (S : List (List A)) (ms : List Move) (p : List Factor) → FreelyReduced G S → AllApart ms
       → multiplied G S p ≡ multiplied G (madeAll G S ms) (after (length S) ms p)
   multiplied-after S ms p h a = rw (← undoneAll-back G (madeAll G S ms) ms, madeAll-undone G L S ms h a, madeAll-length)
       at (multiplied-before (madeAll G S ms) (back ms) p)
 
   -- a slot that the system has not counts as blank: whatever any product comes to is generated
-  pub generated : (S : List (List A)) (w : List A) (p : List Factor) → multiplied G S p ≡ reduce G w → Generated G S w
+  pub generated : (S : List (List A)) (w : List A) (p : List Factor) → multiplied G S p ≡ freelyReduce G w → Generated G S w
   generated S w p e = let (q, o, m) = unblanked G L S p in (q, overWords-over G L S q o, m ∙ e)
-
-  pub equivalent-refl : (S : List (List A)) → Equivalent G S S
-  equivalent-refl S w = (λ g. g, λ g. g)
-
-  pub equivalent-sym : (S T : List (List A)) → Equivalent G S T → Equivalent G T S
-  equivalent-sym S T e w = (e w .1, e w .0)
 
   pub equivalent-trans : (S T U : List (List A)) → Equivalent G S T → Equivalent G T U → Equivalent G S U
   equivalent-trans S T U e f w = (λ g. f w .0 (e w .0 g), λ g. e w .1 (f w .1 g))
 
   -- the given words and the freely reduced ones generate the same words
-  pub reduced-equivalent : (S : List (List A)) → Equivalent G S (map (reduce G) S)
+  pub reduced-equivalent : (S : List (List A)) → Equivalent G S (map (freelyReduce G) S)
   reduced-equivalent S w = (
-    λ g. generated (map (reduce G) S) w g.0 (reduced-multiplied S g.0 ∙ g.2),
+    λ g. generated (map (freelyReduce G) S) w g.0 (reduced-multiplied S g.0 ∙ g.2),
     λ g. generated S w g.0 (sym (reduced-multiplied S g.0) ∙ g.2),
   )
 
   -- so do the words before and after a row of moves
-  pub madeAll-equivalent : (S : List (List A)) (ms : List Move) → Tidy G S → AllApart ms → Equivalent G S (madeAll G S ms)
+  pub madeAll-equivalent : (S : List (List A)) (ms : List Move) → FreelyReduced G S → AllApart ms → Equivalent G S (madeAll G S ms)
   madeAll-equivalent S ms h a w = (
     λ g. generated (madeAll G S ms) w (after (length S) ms g.0) (sym (multiplied-after S ms g.0 h a) ∙ g.2),
     λ g. generated S w (before (length S) ms g.0) (sym (multiplied-before S ms g.0) ∙ g.2),
   )
 
-  pub made-equivalent : (S : List (List A)) (m : Move) → Tidy G S → Apart m → Equivalent G S (made G S m)
+  pub made-equivalent : (S : List (List A)) (m : Move) → FreelyReduced G S → Apart m → Equivalent G S (made G S m)
   made-equivalent S m h a = madeAll-equivalent S (m ∷ []) h (a, tt)
 
   -- "equivalent to the given one": the given words and those that a row of moves leaves; "First freely reduce each given word."
-  pub run-equivalent : (S : List (List A)) (ms : List Move) → AllApart ms → Equivalent G S (madeAll G (map (reduce G) S) ms)
-  run-equivalent S ms a = equivalent-trans S (map (reduce G) S) (madeAll G (map (reduce G) S) ms) (reduced-equivalent S)
-      (madeAll-equivalent (map (reduce G) S) ms (reduced-tidy S) a)
+  pub run-equivalent : (S : List (List A)) (ms : List Move) → AllApart ms → Equivalent G S (madeAll G (map (freelyReduce G) S) ms)
+  run-equivalent S ms a = equivalent-trans S (map (freelyReduce G) S) (madeAll G (map (freelyReduce G) S) ms) (reduced-equivalent S)
+      (madeAll-equivalent (map (freelyReduce G) S) ms (words-freelyReduced S) a)

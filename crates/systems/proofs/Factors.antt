@@ -8,12 +8,12 @@ use native.Mathlib.Omega.{arith}
 use lib.ListN.{length}
 use lib.Dec.{eqb}
 use borrow.Author.Tests.{eqb-true, eq-eqb}
-use Rattle.words.specs.Letters.{Letters}
+use Rattle.words.specs.Alphabet.{Alphabet}
 use Rattle.words.specs.Words.{Irreducible, inverse}
-use Rattle.words.proofs.Letters.{LetterLaws}
+use Rattle.words.proofs.Alphabet.{AlphabetLaws}
 use Rattle.words.proofs.Inverse.{inverse-twice, inverse-length, inverse-irreducible, inverse-nil}
-use Rattle.systems.specs.Products.{Factor, factors, word, value}
-use Rattle.systems.specs.Reduced.{Element, size}
+use Rattle.systems.specs.Products.{Factor, factors, word, value, NotBlank}
+use Rattle.systems.specs.Reduced.{size}
 use Rattle.systems.proofs.Searching.{and-left, and-right}
 
 -- a word is empty or not
@@ -43,7 +43,7 @@ pub factor-same : (f g : Factor) → f .slot ≡ g .slot → f .inverted ≡ g .
 factor-same f g p q = λ i. record { slot = p i; inverted = q i }
 
 -- factors are letters: the theory of words holds for products
-pub factorLaws : LetterLaws factors
+pub factorLaws : AlphabetLaws factors
 factorLaws =
     record {
       twice = λ f. factor-same _ _ refl (Bool·not-not (f .inverted));
@@ -55,14 +55,14 @@ factorLaws =
     }
 
 -- no factor is its own inverse
-pub factor-moves : (f : Factor) → factors .flip f ≡ f → ⊥
-factor-moves f e = not-eq-not {a = not (f .inverted)} {b = f .inverted} .1 (ap (λ (g : Factor). g .inverted) e) refl
+pub factor-noOwnInverse : (f : Factor) → factors .flip f ≡ f → ⊥
+factor-noOwnInverse f e = not-eq-not {a = not (f .inverted)} {b = f .inverted} .1 (ap (λ (g : Factor). g .inverted) e) refl
 
 -- a slot has two elements: of the same slot, and not the inverse, is the element itself
 pub same-element : (x y : Factor) → x .slot ≡ y .slot → (x ≡ factors .flip y → ⊥) → x ≡ y
 same-element x y e n = factor-same x y e (not-eq-not .0 (λ s. n (factor-same x (factors .flip y) e s)))
 
-module _ {A : Type 0} (G : Letters A) (L : LetterLaws G) (S : List (List A)) where
+module _ {A : Type 0} (G : Alphabet A) (L : AlphabetLaws G) (S : List (List A)) where
   value-of : (b : Bool) (k : ℕ) → value G S (record { slot = k; inverted = not b }) ≡ inverse G (value G S (record { slot = k; inverted = b }))
   value-of true k = sym (inverse-twice G L (word G S k))
   value-of false k = refl
@@ -96,12 +96,8 @@ module _ {A : Type 0} (G : Letters A) (L : LetterLaws G) (S : List (List A)) whe
       go false = e
 
   -- an element is a word that has letters
-  pub element-size : (x : Factor) → Element G S x → 0 < size G S x
-  element-size x h = rw (value-length x) (nonempty-word (word G S (x .slot)) h)
+  pub notBlank-size : (x : Factor) → NotBlank G S (x .slot) → 0 < size G S x
+  notBlank-size x h = rw (value-length x) (nonempty-word (word G S (x .slot)) h)
 
-  pub size-element : (x : Factor) → 0 < size G S x → Element G S x
-  size-element x h = word-nonempty (word G S (x .slot)) (rw (value-length x) at h)
-
--- a slot that is not blank
-abbrev pub NotBlank : {A : Type 0} → Letters A → List (List A) → ℕ → Type 0
-NotBlank G S k = word G S k ≡ [] → ⊥
+  pub size-notBlank : (x : Factor) → 0 < size G S x → NotBlank G S (x .slot)
+  size-notBlank x h = word-nonempty (word G S (x .slot)) (rw (value-length x) at h)

@@ -12,32 +12,32 @@ use native.Mathlib.Decide.{decLt, ℕ-discrete}
 use lib.ListN.{length}
 use lib.Dec.{eqb}
 use borrow.Author.Tests.{lt-ltb, le-ltb, eqb-true, eqb-false, eq-eqb, ne-eqb, not-true}
-use Rattle.words.specs.Letters.{Letters}
-use Rattle.words.specs.Words.{inverse, common}
-use Rattle.words.proofs.Letters.{LetterLaws}
-use Rattle.words.proofs.Cancellation.{common-comm, common-le-right, cancelled-common, cancelled-inverse-left, cancelled-self}
-use Rattle.systems.specs.Products.{Factor, factors, word, value, Tidy}
+use Rattle.words.specs.Alphabet.{Alphabet}
+use Rattle.words.specs.Words.{inverse, commonPrefix}
+use Rattle.words.proofs.Alphabet.{AlphabetLaws}
+use Rattle.words.proofs.Cancellation.{commonPrefix-comm, commonPrefix-le-right, cancellation-commonPrefix, cancellation-inverse-left, cancellation-self}
+use Rattle.systems.specs.Products.{Factor, factors, word, value, FreelyReduced, NotBlank}
 use Rattle.systems.specs.Moves.{Form, form₁, form₄, Move, movedWord, seam}
-use Rattle.systems.specs.Reduced.{Element, cancels, size}
+use Rattle.systems.specs.Reduced.{cancellationOf, size}
 use Rattle.systems.specs.Rules.{first, anyBelow, firstHalf, secondHalf, begins, ends, elsewhere, beginsElsewhere, qualifies, shortestBelow, tryHalf, halfEnd}
-use Rattle.systems.proofs.Searching.{bool-cases, option-cases, some-not-none, and-true, and-left, and-right, all-four, four-all, nonzero, or-left, or-right, or-either, not-true-false, not-false-true, true-not-false, unless-some, else-some, given-some, first-some, first-found, first-exists, any-found, any-where, any-nowhere, any-each}
-use Rattle.systems.proofs.Factors.{nonempty-word, word-nonempty, same-element, value-flip, value-length, value-irreducible, element-size, size-element}
+use Rattle.systems.proofs.Searching.{bool-cases, option-cases, some-not-none, and-true, and-left, and-right, all-four, four-all, nonzero, or-left, or-right, or-either, not-true-false, true-not-false, unless-some, else-some, given-some, first-some, first-found, first-exists, any-found, any-where, any-nowhere, any-each}
+use Rattle.systems.proofs.Factors.{nonempty-word, word-nonempty, same-element, value-flip, value-length, value-irreducible, notBlank-size, size-notBlank}
 use Rattle.systems.proofs.ProductLaws.{word-slot}
 use Rattle.systems.proofs.Halves.{begins-half, begins-back-half}
 use Rattle.systems.proofs.Shortening.{AtMostHalf, Allowed, formed-length, seam-le-changed, half-keeps}
 
-module _ {A : Type 0} (G : Letters A) where
+module _ {A : Type 0} (G : Alphabet A) where
   -- "in no product of three is the middle one wholly cancelled, a neighbour that is the middle one's own inverse not counted": the
   -- second condition of a reduced system
   abbrev pub MiddleKept : List (List A) → Type 0
-  MiddleKept S = (x y z : Factor) → Element G S x → Element G S y → Element G S z
-      → (x ≡ factors .flip y → ⊥) → (z ≡ factors .flip y → ⊥) → cancels G S x y + cancels G S y z < size G S y
+  MiddleKept S = (x y z : Factor) → NotBlank G S (x .slot) → NotBlank G S (y .slot) → NotBlank G S (z .slot)
+      → (x ≡ factors .flip y → ⊥) → (z ≡ factors .flip y → ⊥) → cancellationOf G S x y + cancellationOf G S y z < size G S y
 
   -- an element of another slot than h that begins with the first m letters of w
   pub record Beginning (S : List (List A)) (h m : ℕ) (w : List A) : Type 0 where
     pub element : Factor
     pub apart : element .slot ≡ h → ⊥
-    pub agrees : m ≤ common G w (value G S element)
+    pub agrees : m ≤ commonPrefix G w (value G S element)
 
   -- "It qualifies if another slot's word or its inverse begins with E1, and another slot's word or its inverse begins with the inverse of E2"
   pub record Qualified (S : List (List A)) (h : ℕ) : Type 0 where
@@ -67,7 +67,7 @@ module _ {A : Type 0} (G : Letters A) where
     pub taken : EndTaken S (m .other) (m .changed) (m .form)
     pub earlier : (k : ℕ) → k < m .changed → tryHalf G S (m .other) k ≡ none
 
-module _ {A : Type 0} (G : Letters A) (L : LetterLaws G) where
+module _ {A : Type 0} (G : Alphabet A) (L : AlphabetLaws G) where
   module _ (S : List (List A)) where
     -- an element of another slot that begins with u
     pub elsewhere-found : (h : ℕ) (u : List A) → beginsElsewhere G S h u ≡ true
@@ -117,8 +117,8 @@ module _ {A : Type 0} (G : Letters A) (L : LetterLaws G) where
         }
 
     -- an element that has letters in common with another word is not blank, and so in a slot of the system
-    beginning-word : (h m : ℕ) (w : List A) → 0 < m → (b : Beginning G S h m w) → Element G S (b .element)
-    beginning-word h m w n b = size-element G L S (b .element) (omega (arith, b .agrees, common-le-right G L w (value G S (b .element))))
+    beginning-word : (h m : ℕ) (w : List A) → 0 < m → (b : Beginning G S h m w) → NotBlank G S (b .element .slot)
+    beginning-word h m w n b = size-notBlank G L S (b .element) (omega (arith, b .agrees, commonPrefix-le-right G L w (value G S (b .element))))
 
     beginning-inside : (h m : ℕ) (w : List A) → 0 < m → (b : Beginning G S h m w) → b .element .slot < length S
     beginning-inside h m w n b = word-slot G L S (b .element .slot) (beginning-word h m w n b)
@@ -141,18 +141,18 @@ module _ {A : Type 0} (G : Letters A) (L : LetterLaws G) where
         let b-true = beginning-elsewhere h m (inverse G w) (inverse G (secondHalf G w)) positive back back-begins in
         four-all _ _ _ _ n-true v-true f-true b-true
 
-    cancels-before : (x y : Factor) → cancels G S x y ≡ common G (value G S y) (value G S (factors .flip x))
-    cancels-before x y = rw (cancelled-common G L, value-flip G L S x) (common-comm G L (inverse G (value G S x)) (value G S y))
+    cancels-before : (x y : Factor) → cancellationOf G S x y ≡ commonPrefix G (value G S y) (value G S (factors .flip x))
+    cancels-before x y = rw (cancellation-commonPrefix G L, value-flip G L S x) (commonPrefix-comm G L (inverse G (value G S x)) (value G S y))
 
-    cancels-turned : (u y : Factor) → cancels G S (factors .flip u) y ≡ common G (value G S y) (value G S u)
-    cancels-turned u y = rw (value-flip G L S u, cancelled-inverse-left G L) (common-comm G L (value G S u) (value G S y))
+    cancels-turned : (u y : Factor) → cancellationOf G S (factors .flip u) y ≡ commonPrefix G (value G S y) (value G S u)
+    cancels-turned u y = rw (value-flip G L S u, cancellation-inverse-left G L) (commonPrefix-comm G L (value G S u) (value G S y))
 
-    cancels-after : (y z : Factor) → cancels G S y z ≡ common G (value G S (factors .flip y)) (value G S z)
-    cancels-after y z = rw (cancelled-common G L, value-flip G L S y)
+    cancels-after : (y z : Factor) → cancellationOf G S y z ≡ commonPrefix G (value G S (factors .flip y)) (value G S z)
+    cancels-after y z = rw (cancellation-commonPrefix G L, value-flip G L S y)
 
     -- a word that qualifies is wholly cancelled between the two elements that have its halves
-    pub qualified-cancelled : (h : ℕ) → Qualified G S h → MiddleKept G S → ⊥
-    qualified-cancelled h q middle =
+    pub qualified-cancellation : (h : ℕ) → Qualified G S h → MiddleKept G S → ⊥
+    qualified-cancellation h q middle =
         let w : List A = word G S h in
         let u : Factor = q .at-front .element in
         let y : Factor = record { slot = h; inverted = false } in
@@ -180,30 +180,30 @@ module _ {A : Type 0} (G : Letters A) (L : LetterLaws G) where
     qualified-of h false n e p q = record { not-blank = n; even = e; at-front = p; at-back = q }
     qualified-of h true n e p q = record { not-blank = n; even = e; at-front = q; at-back = p }
 
-    module _ (moves : (x : A) → G .flip x ≡ x → ⊥) (tidy : Tidy G S) where
+    module _ (noOwnInverse : (x : A) → G .flip x ≡ x → ⊥) (freely : FreelyReduced G S) where
       -- less than half of an element cancels against the element itself
-      pub cancels-self : (y : Factor) → Element G S y → 2 * cancels G S y y < size G S y
-      cancels-self y n = cancelled-self G L moves (value G S y) (value-irreducible G L S y (tidy (y .slot)))
-          (element-size G L S y n)
+      pub cancellationOf-self : (y : Factor) → NotBlank G S (y .slot) → 2 * cancellationOf G S y y < size G S y
+      cancellationOf-self y n = cancellation-self G L noOwnInverse (value G S y) (value-irreducible G L S y (freely (y .slot)))
+          (notBlank-size G L S y n)
 
       -- where nothing shortens, a neighbour takes at most half of an element, and the whole half only from another slot
-      before-half : AtMostHalf G S → (x y : Factor) → Element G S x → Element G S y → (x ≡ factors .flip y → ⊥)
-          → (2 * cancels G S x y < size G S y) ⊎ ((x .slot ≡ y .slot → ⊥) × (2 * cancels G S x y ≤ size G S y))
+      before-half : AtMostHalf G S → (x y : Factor) → NotBlank G S (x .slot) → NotBlank G S (y .slot) → (x ≡ factors .flip y → ⊥)
+          → (2 * cancellationOf G S x y < size G S y) ⊎ ((x .slot ≡ y .slot → ⊥) × (2 * cancellationOf G S x y ≤ size G S y))
       before-half half x y p q n = elim (ℕ-discrete (x .slot) (y .slot)) [
-        | yes e ↦ inl (rw (same-element x y e n) (cancels-self y q))
+        | yes e ↦ inl (rw (same-element x y e n) (cancellationOf-self y q))
         | no d ↦ inr (d, half x y p q d .1)
       ]
 
-      after-half : AtMostHalf G S → (y z : Factor) → Element G S y → Element G S z → (z ≡ factors .flip y → ⊥)
-          → (2 * cancels G S y z < size G S y) ⊎ ((z .slot ≡ y .slot → ⊥) × (2 * cancels G S y z ≤ size G S y))
+      after-half : AtMostHalf G S → (y z : Factor) → NotBlank G S (y .slot) → NotBlank G S (z .slot) → (z ≡ factors .flip y → ⊥)
+          → (2 * cancellationOf G S y z < size G S y) ⊎ ((z .slot ≡ y .slot → ⊥) × (2 * cancellationOf G S y z ≤ size G S y))
       after-half half y z q r n = elim (ℕ-discrete (z .slot) (y .slot)) [
-        | yes e ↦ inl (rw (same-element z y e n) (cancels-self y q))
+        | yes e ↦ inl (rw (same-element z y e n) (cancellationOf-self y q))
         | no d ↦ inr (d, half y z q r (λ s. d (sym s)) .0)
       ]
 
       -- so the word of an element that they cancel wholly qualifies
-      wholly-qualified : (x y z : Factor) → Element G S y → (x .slot ≡ y .slot → ⊥) → (z .slot ≡ y .slot → ⊥)
-          → 2 * cancels G S x y ≡ size G S y → 2 * cancels G S y z ≡ size G S y → Qualified G S (y .slot)
+      wholly-qualified : (x y z : Factor) → NotBlank G S (y .slot) → (x .slot ≡ y .slot → ⊥) → (z .slot ≡ y .slot → ⊥)
+          → 2 * cancellationOf G S x y ≡ size G S y → 2 * cancellationOf G S y z ≡ size G S y → Qualified G S (y .slot)
       wholly-qualified x y z q d e f g =
           let w : List A = word G S (y .slot) in
           let long : length (value G S y) ≡ length w = value-length G L S y in
@@ -217,7 +217,7 @@ module _ {A : Type 0} (G : Letters A) (L : LetterLaws G) where
         | inl b ↦ elim (after-half half y z q r e) [ inl a ↦ omega arith | inr a ↦ omega arith ]
         | inr b ↦ elim (after-half half y z q r e) [
           | inl a ↦ omega arith
-          | inr a ↦ elim (decLt (cancels G S x y + cancels G S y z) (size G S y)) [
+          | inr a ↦ elim (decLt (cancellationOf G S x y + cancellationOf G S y z) (size G S y)) [
             | yes l ↦ l
             | no l ↦ absurd (un (y .slot) (wholly-qualified x y z q b.0 a.0 (omega arith) (omega arith)))
           ]
@@ -234,14 +234,7 @@ module _ {A : Type 0} (G : Letters A) (L : LetterLaws G) where
 
           of : MiddleKept G S → anyBelow (qualifies G S) (length S) ≡ false
           of middle = any-nowhere (qualifies G S) (length S)
-              (λ h l. not-true-false (qualifies G S h) (λ t. qualified-cancelled h (qualifies-qualified h t) middle))
-
-      -- and some word qualifies exactly where it fails
-      pub some-qualifies : AtMostHalf G S → (anyBelow (qualifies G S) (length S) ≡ true) ↔ (MiddleKept G S → ⊥)
-      some-qualifies half = (
-        λ e middle. true-not-false (anyBelow (qualifies G S) (length S)) e (none-qualifies half .1 middle),
-        λ n. not-false-true (anyBelow (qualifies G S) (length S)) (λ e. n (none-qualifies half .0 e)),
-      )
+              (λ h l. not-true-false (qualifies G S h) (λ t. qualified-cancellation h (qualifies-qualified h t) middle))
 
     pub shortest-skip : (n : ℕ) → qualifies G S n ≡ false → shortestBelow G S (suc n) ≡ shortestBelow G S n
     shortest-skip n e = rw e
@@ -467,9 +460,9 @@ module _ {A : Type 0} (G : Letters A) (L : LetterLaws G) where
 
     taken-seam : (h k : ℕ) {form : Form} → length (word G S h) % 2 ≡ 0 → EndTaken G S h k form
         → length (word G S h) / 2 ≤ seam G form (word G S h) (word G S k)
-    taken-seam h k e (at-end t) = rw (cancelled-common G L, common-comm G L)
+    taken-seam h k e (at-end t) = rw (cancellation-commonPrefix G L, commonPrefix-comm G L)
         (begins-back-half G L (word G S h) (inverse G (word G S k)) e .0 t)
-    taken-seam h k e (at-beginning d t) = rw (cancelled-common G L) (begins-back-half G L (word G S h) (word G S k) e .0 t)
+    taken-seam h k e (at-beginning d t) = rw (cancellation-commonPrefix G L) (begins-back-half G L (word G S h) (word G S k) e .0 t)
 
     -- at least half of the shortest qualifying word cancels
     pub halfEnd-half : (m : Move) → HalfEndMove G S m
@@ -493,21 +486,21 @@ module _ {A : Type 0} (G : Letters A) (L : LetterLaws G) where
           other-word = word-nonempty w (q .not-blank);
         }
 
-    module _ (moves : (x : A) → G .flip x ≡ x → ⊥) (tidy : Tidy G S) where
+    module _ (noOwnInverse : (x : A) → G .flip x ≡ x → ⊥) (freely : FreelyReduced G S) where
       -- where nothing shortens, there is no half-end move exactly where the second condition of a reduced system holds
       pub halfEnd-none : AtMostHalf G S → (halfEnd G S ≡ none) ↔ MiddleKept G S
       halfEnd-none half = (
-        λ e. none-qualifies moves tidy half .0 (halfEnd-unqualified .0 e),
-        λ middle. halfEnd-unqualified .1 (none-qualifies moves tidy half .1 middle),
+        λ e. none-qualifies noOwnInverse freely half .0 (halfEnd-unqualified .0 e),
+        λ middle. halfEnd-unqualified .1 (none-qualifies noOwnInverse freely half .1 middle),
       )
 
-    module _ (tidy : Tidy G S) where
+    module _ (freely : FreelyReduced G S) where
       -- a half-end move does not lengthen the changed word
       pub halfEnd-no-longer : (m : Move) → halfEnd G S ≡ some m → length (movedWord G S m) ≤ length (word G S (m .changed))
       halfEnd-no-longer m e =
           let w : List A = word G S (m .other) in
           let v : List A = word G S (m .changed) in
-          omega (arith, formed-length G L (m .form) w v (tidy (m .other)) (tidy (m .changed)), halfEnd-half m (halfEnd-found m e))
+          omega (arith, formed-length G L (m .form) w v (freely (m .other)) (freely (m .changed)), halfEnd-half m (halfEnd-found m e))
 
       -- and where nothing shortens, exactly half of the shortest qualifying word cancels: the changed word keeps its length
       pub halfEnd-same-length : AtMostHalf G S → (m : Move) → halfEnd G S ≡ some m
@@ -516,7 +509,7 @@ module _ {A : Type 0} (G : Letters A) (L : LetterLaws G) where
           let a : Allowed G S m = halfEnd-allowed m e in
           let le = halfEnd-no-longer m e in
           elim (decLt (length (movedWord G S m)) (length (word G S (m .changed)))) [
-            | yes l ↦ absurd (half-keeps G L S tidy half m (record {
+            | yes l ↦ absurd (half-keeps G L S freely half m (record {
               distinct = a .distinct;
               changed-inside = a .changed-inside;
               other-inside = a .other-inside;

@@ -9,25 +9,25 @@ use native.Mathlib.Omega.{arith}
 use lib.ListN.{length, take}
 use lib.Seq.{length-take-le}
 use borrow.Author.Tests.{eqb-true, eq-eqb}
-use Rattle.words.specs.Letters.{Letters}
-use Rattle.words.specs.Words.{inverse, common}
-use Rattle.words.proofs.Letters.{LetterLaws}
+use Rattle.words.specs.Alphabet.{Alphabet}
+use Rattle.words.specs.Words.{inverse, commonPrefix}
+use Rattle.words.proofs.Alphabet.{AlphabetLaws}
 use Rattle.words.proofs.Inverse.{inverse-length, inverse-drop}
-use Rattle.words.proofs.Cancellation.{common-agree, common-most, common-begins, begins-common, common-le-left}
+use Rattle.words.proofs.Cancellation.{commonPrefix-agree, commonPrefix-most, commonPrefix-begins, begins-commonPrefix, commonPrefix-le-left}
 use Rattle.systems.specs.Rules.{begins, firstHalf, secondHalf}
 
-module _ {A : Type 0} (G : Letters A) (L : LetterLaws G) where
+module _ {A : Type 0} (G : Alphabet A) (L : AlphabetLaws G) where
   -- a word begins with the first m letters of another
-  begins-to : (m : ℕ) (w v : List A) → m ≤ length w → begins G (take m w) v ≡ true → m ≤ common G w v
+  begins-to : (m : ℕ) (w v : List A) → m ≤ length w → begins G (take m w) v ≡ true → m ≤ commonPrefix G w v
   begins-to m w v h e =
       let n : length (take m w) ≡ m = length-take-le m w h in
-      let b : take m v ≡ take m w = rw n at (common-begins G L (take m w) v (eqb-true _ _ e)) in
-      common-most G L m w v h (sym b)
+      let b : take m v ≡ take m w = rw n at (commonPrefix-begins G L (take m w) v (eqb-true _ _ e)) in
+      commonPrefix-most G L m w v h (sym b)
 
-  begins-of : (m : ℕ) (w v : List A) → m ≤ common G w v → begins G (take m w) v ≡ true
+  begins-of : (m : ℕ) (w v : List A) → m ≤ commonPrefix G w v → begins G (take m w) v ≡ true
   begins-of m w v c =
-      let h : m ≤ length w = omega (arith, common-le-left G L w v) in
-      eq-eqb _ _ (begins-common G L (take m w) v (rw (length-take-le m w h) (sym (common-agree G L m w v c))))
+      let h : m ≤ length w = omega (arith, commonPrefix-le-left G L w v) in
+      eq-eqb _ _ (begins-commonPrefix G L (take m w) v (rw (length-take-le m w h) (sym (commonPrefix-agree G L m w v c))))
 
   -- the second half read backward is the first half of the inverse
   back-half : (w : List A) → length w % 2 ≡ 0 → inverse G (secondHalf G w) ≡ firstHalf G (inverse G w)
@@ -36,10 +36,10 @@ module _ {A : Type 0} (G : Letters A) (L : LetterLaws G) where
       rw (inverse-length G L) (inverse-drop G L (length w / 2) w ∙ ap (λ (m : ℕ). take m (inverse G w)) n)
 
   -- a word begins with the first half of another where the two have that half in common
-  pub begins-half : (w v : List A) → (begins G (firstHalf G w) v ≡ true) ↔ (length w / 2 ≤ common G w v)
+  pub begins-half : (w v : List A) → (begins G (firstHalf G w) v ≡ true) ↔ (length w / 2 ≤ commonPrefix G w v)
   begins-half w v = (begins-to (length w / 2) w v (omega arith), begins-of (length w / 2) w v)
 
   -- and with the inverse of the second half where the inverse has
   pub begins-back-half : (w v : List A) → length w % 2 ≡ 0
-      → (begins G (inverse G (secondHalf G w)) v ≡ true) ↔ (length w / 2 ≤ common G (inverse G w) v)
+      → (begins G (inverse G (secondHalf G w)) v ≡ true) ↔ (length w / 2 ≤ commonPrefix G (inverse G w) v)
   begins-back-half w v e = rw (back-half w e, ← inverse-length G L w) (begins-half (inverse G w) v)

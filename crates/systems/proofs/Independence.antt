@@ -1,7 +1,7 @@
 -- Independence (document 000, section 2, theorems 2 and 3). Along a row of moves of words that are not blank, a relation of the words
 -- after the moves goes back to one of the words before them, and the other way round, and a product that cancels over the slots to one
 -- that cancels. So the words at the start are independent exactly when none of them has gone blank, given that those left are.
-use Prim.Native.Nat.{ℕ, zero, suc, _≤_, _<_}
+use Prim.Native.Nat.{ℕ, zero, suc, _<_}
 use mathlib.Core.Path.{_≡_, refl, sym, ap, _∙_}
 use mathlib.Core.Logic.{_↔_}
 use mathlib.Core.Bool.{Bool, true, false}
@@ -9,15 +9,15 @@ use mathlib.Core.List.{List, [], _∷_, _++_, cons≢nil}
 use native.Mathlib.Omega.{arith}
 use native.Mathlib.Decide.{decLt}
 use lib.ListN.{length, List·getD-eq-default}
-use Rattle.words.specs.Letters.{Letters}
-use Rattle.words.specs.Words.{reduce, Irreducible, inverse}
-use Rattle.words.proofs.Letters.{LetterLaws}
+use Rattle.words.specs.Alphabet.{Alphabet}
+use Rattle.words.specs.Words.{freelyReduce, Irreducible, inverse}
+use Rattle.words.proofs.Alphabet.{AlphabetLaws}
 use Rattle.words.proofs.Inverse.{inverse-singleton}
-use Rattle.systems.specs.Products.{Factor, factors, word, value, spelled, multiplied, OverWords, Independent, Tidy}
+use Rattle.systems.specs.Products.{Factor, factors, word, value, spelled, multiplied, OverWords, Independent, FreelyReduced, NotBlank}
 use Rattle.systems.specs.Moves.{Form, form₁, form₂, form₃, form₄, Move, formed, movedWord, made, madeAll, undo}
 use Rattle.systems.specs.Rank.{rank}
-use Rattle.systems.proofs.Factors.{factorLaws, NotBlank}
-use Rattle.systems.proofs.ProductLaws.{Named, named-append, named-inverse, named-reduce, named-words, words-named, word-slot, multiplied-trivial}
+use Rattle.systems.proofs.Factors.{factorLaws}
+use Rattle.systems.proofs.ProductLaws.{Named, named-append, named-inverse, named-freelyReduce, named-words, words-named, word-slot, multiplied-trivial}
 use Rattle.systems.proofs.Undoing.{Apart, AllApart, back, set-holds, made-others, madeAll-length, undoneAll-made, undoneAll-back}
 use Rattle.systems.proofs.Equivalence.{slotLetter, slotLetters, slotLetters-length, slotLetters-word, before, after, multiplied-before, multiplied-after}
 
@@ -54,7 +54,7 @@ module _ (P : ℕ → Type 0) where
       (λ x.
       let wi : List Factor = word factors E (m .other) in
       let wk : List Factor = word factors E (m .changed) in
-      named-reduce P (formed factors (m .form) wi wk) (named-formed (m .form) wi wk (h (m .other) a.1) (h (m .changed) a.0))))
+      named-freelyReduce P (formed factors (m .form) wi wk) (named-formed (m .form) wi wk (h (m .other) a.1) (h (m .changed) a.0))))
 
   named-spelled : (E : List (List Factor)) (p : List Factor) → SlotsNamed E → Named P p → Named P (spelled factors E p)
   named-spelled E [] h k = k
@@ -90,29 +90,29 @@ module _ (n : ℕ) (ms : List Move) where
   slotLetters-spelled [] h = refl
   slotLetters-spelled (f ∷ p) h = rw (slotLetters-value f h.0, slotLetters-spelled p h.1)
 
-  slotLetters-tidy : Tidy factors (slotLetters n)
-  slotLetters-tidy k = slotLetters-hold (Irreducible factors) n k tt tt
+  slotLetters-freelyReduced : FreelyReduced factors (slotLetters n)
+  slotLetters-freelyReduced k = slotLetters-hold (Irreducible factors) n k tt tt
 
   -- over the slots there are, a product changed to one after the moves and back is the same but for what cancels
-  pub before-after : (p : List Factor) → AllApart ms → Named (λ k. k < n) p → reduce factors (before n ms (after n ms p)) ≡ reduce factors p
+  pub before-after : (p : List Factor) → AllApart ms → Named (λ k. k < n) p → freelyReduce factors (before n ms (after n ms p)) ≡ freelyReduce factors p
   before-after p a h = rw (slotLetters-length n, slotLetters-spelled p h)
-      at (sym (multiplied-after factors factorLaws (slotLetters n) ms p slotLetters-tidy a))
+      at (sym (multiplied-after factors factorLaws (slotLetters n) ms p slotLetters-freelyReduced a))
 
   -- and so is one changed to one before the moves and back
-  pub after-before : (p : List Factor) → AllApart ms → Named (λ k. k < n) p → reduce factors (after n ms (before n ms p)) ≡ reduce factors p
+  pub after-before : (p : List Factor) → AllApart ms → Named (λ k. k < n) p → freelyReduce factors (after n ms (before n ms p)) ≡ freelyReduce factors p
   after-before p a h =
       let E : List (List Factor) = madeAll factors (slotLetters n) (back ms) in
       let e : madeAll factors E ms ≡ slotLetters n =
       ap (λ (F : List (List Factor)). madeAll factors F ms) (sym (undoneAll-back factors (slotLetters n) ms))
-      ∙ undoneAll-made factors factorLaws (slotLetters n) ms slotLetters-tidy a in
+      ∙ undoneAll-made factors factorLaws (slotLetters n) ms slotLetters-freelyReduced a in
       rw (madeAll-length factors (slotLetters n) (back ms) ∙ slotLetters-length n, e, slotLetters-spelled p h)
       at (sym (multiplied-before factors factorLaws E ms p))
 
   -- a product that cancels over the slots becomes one that cancels
-  pub before-trivial : (p : List Factor) → reduce factors p ≡ [] → reduce factors (before n ms p) ≡ []
+  pub before-trivial : (p : List Factor) → freelyReduce factors p ≡ [] → freelyReduce factors (before n ms p) ≡ []
   before-trivial p e = multiplied-trivial factors factorLaws (madeAll factors (slotLetters n) ms) p e
 
-module _ {A : Type 0} (G : Letters A) where
+module _ {A : Type 0} (G : Alphabet A) where
   -- each move takes two different slots that are not blank in the system where it is made: "Only slots that are not blank take part."
   abbrev pub MovesWords : List (List A) → List Move → Type 0
   MovesWords S [] = Unit
@@ -160,12 +160,12 @@ module _ {A : Type 0} (G : Letters A) where
   ranked (w ∷ S) [] l h = absurd (omega arith)
   ranked (w ∷ S) (v ∷ T) l h = ranked-cons w v S T (h 0) (ranked S T (omega arith) (λ k. h (suc k)))
 
-module _ {A : Type 0} (G : Letters A) (L : LetterLaws G) (S : List (List A)) (ms : List Move) (tidy : Tidy G S) (moves : MovesWords G S ms) where
+module _ {A : Type 0} (G : Alphabet A) (L : AlphabetLaws G) (S : List (List A)) (ms : List Move) (freely : FreelyReduced G S) (noOwnInverse : MovesWords G S ms) where
   apart : AllApart ms
-  apart = moves-apart G S ms moves
+  apart = moves-apart G S ms noOwnInverse
 
   among : Among (NotBlank G S) ms
-  among = moves-among G (NotBlank G S) S ms (λ k h. h) moves
+  among = moves-among G (NotBlank G S) S ms (λ k h. h) noOwnInverse
 
   -- where no word is lost and the words that are left are independent, so are the given ones
   pub independent-kept : ((k : ℕ) → NotBlank G S k → NotBlank G (madeAll G S ms) k) → Independent G (madeAll G S ms) → Independent G S
@@ -173,8 +173,8 @@ module _ {A : Type 0} (G : Letters A) (L : LetterLaws G) (S : List (List A)) (ms
       let q : List Factor = after (length S) ms p in
       let named : Named (NotBlank G S) q =
       named-before (NotBlank G S) (length S) (back ms) p (among-back (NotBlank G S) ms among) (words-named G L S (NotBlank G S) p (λ k h. h) over) in
-      let trivial : reduce factors q ≡ [] =
-      independent q (named-words G L (madeAll G S ms) (NotBlank G S) q stays named) (sym (multiplied-after G L S ms p tidy apart) ∙ e) in
+      let trivial : freelyReduce factors q ≡ [] =
+      independent q (named-words G L (madeAll G S ms) (NotBlank G S) q stays named) (sym (multiplied-after G L S ms p freely apart) ∙ e) in
       sym (before-after (length S) ms p apart (words-named G L S (λ k. k < length S) p (word-slot G L S) over))
       ∙ before-trivial (length S) ms q trivial
 
@@ -194,11 +194,7 @@ module _ {A : Type 0} (G : Letters A) (L : LetterLaws G) (S : List (List A)) (ms
   independent-iff independent = (λ i k h e. dependent-lost k h e i, λ stays. independent-kept stays independent)
 
   counted : Ranked G S (madeAll G S ms)
-  counted = ranked G S (madeAll G S ms) (madeAll-length G S ms) (λ k. blank-stays G S ms k moves)
-
-  -- the rank never exceeds the number of given words
-  pub rank-le : rank (madeAll G S ms) ≤ rank S
-  rank-le = elim counted [ kept e f ↦ omega arith | lost l k n b ↦ omega arith ]
+  counted = ranked G S (madeAll G S ms) (madeAll-length G S ms) (λ k. blank-stays G S ms k noOwnInverse)
 
   -- "The verdict is 'independent' if the rank equals the number of given words that don't freely reduce to the empty word."
   pub rank-iff : Independent G (madeAll G S ms) → rank (madeAll G S ms) ≡ rank S ↔ Independent G S

@@ -11,20 +11,20 @@ use native.Mathlib.Decide.{decLt}
 use lib.ListN.{length}
 use lib.Dec.{eqb}
 use borrow.Author.Tests.{ltb-true, lt-ltb, eqb-true, eq-eqb, ne-eqb, not-true}
-use Rattle.words.specs.Letters.{Letters}
-use Rattle.words.specs.Words.{reduce, Irreducible, inverse, common}
-use Rattle.words.proofs.Letters.{LetterLaws, same?, same-no, differ, flip-inj}
-use Rattle.words.proofs.Reduction.{irreducible-next, reduce-same}
+use Rattle.words.specs.Alphabet.{Alphabet}
+use Rattle.words.specs.Words.{freelyReduce, Irreducible, inverse, commonPrefix}
+use Rattle.words.proofs.Alphabet.{AlphabetLaws, same?, same-no, differ, flip-inj}
+use Rattle.words.proofs.FreeReduction.{irreducible-next, freelyReduce-same}
 use Rattle.words.proofs.Inverse.{inverse-length, inverse-irreducible}
-use Rattle.words.proofs.Cancellation.{cancelled-le-left, cancelled-inverses, common-le-left, common-comm, common-self, cancelled-inverse-left, cancelled-inverse-right, length-cancelled}
-use Rattle.systems.specs.Products.{Factor, factors, value, multiplied, FreelyReducedOver, Tidy}
-use Rattle.systems.specs.Reduced.{Element, cancels, size, Reduced}
+use Rattle.words.proofs.Cancellation.{cancellation-le-left, cancellation-inverses, commonPrefix-le-left, commonPrefix-comm, commonPrefix-self, cancellation-inverse-left, cancellation-inverse-right, length-cancellation}
+use Rattle.systems.specs.Products.{Factor, factors, value, multiplied, FreelyReducedOver, FreelyReduced, NotBlank}
+use Rattle.systems.specs.Reduced.{cancellationOf, size, Reduced}
 use Rattle.systems.specs.Rules.{first, begins, ends, firstHalf, secondHalf}
 use Rattle.systems.specs.Factoring.{eitherOf, bigEnd, endsOther, halfStart, leading}
 use Rattle.systems.proofs.Searching.{option-cases, and-left, and-right, all-four, four-all, or-either, nonzero, given-some, given-none, else-some, else-none, first-each, first-some, any-found, any-where}
-use Rattle.systems.proofs.Factors.{factorLaws, value-flip, value-length, value-irreducible, element-size, size-element}
+use Rattle.systems.proofs.Factors.{factorLaws, value-flip, value-length, value-irreducible, notBlank-size, size-notBlank}
 use Rattle.systems.proofs.ProductLaws.{word-slot}
-use Rattle.systems.proofs.ProductLemma.{not-turn, cancels-half, product-cancelled, product-rest}
+use Rattle.systems.proofs.ProductLemma.{not-turn, cancellation-half, product-cancellation, product-rest}
 use Rattle.systems.proofs.Halves.{begins-half, begins-back-half}
 
 -- of two elements tried in turn, the one found passed its test
@@ -37,7 +37,7 @@ either-found a b f g x e = elim (else-some a f (cond b (some g) none) x e) [
 either-missed : (a b : Bool) (f g : Factor) → _≡_ {A = Option Factor} (cond a (some f) (cond b (some g) none)) none → (a ≡ false) × (b ≡ false)
 either-missed a b f g e = let (p, r) = else-none a f (cond b (some g) none) e in (p, given-none b g r)
 
-module _ {A : Type 0} (G : Letters A) (test : Factor → Bool) where
+module _ {A : Type 0} (G : Alphabet A) (test : Factor → Bool) where
   -- an element found is one of the system's and passes the test
   search-found : (n : ℕ) (x : Factor) → first (eitherOf G test) n ≡ some x → (test x ≡ true) × (x .slot < n)
   search-found n x e =
@@ -58,7 +58,7 @@ module _ {A : Type 0} (G : Letters A) (test : Factor → Bool) where
       go true = both .1
       go false = both .0
 
-module _ {A : Type 0} (G : Letters A) (L : LetterLaws G) where
+module _ {A : Type 0} (G : Alphabet A) (L : AlphabetLaws G) where
   module _ (S : List (List A)) where
     -- some other element ends with the second half of x
     other-found : (x : Factor) (k : ℕ) → endsOther G S x k ≡ true
@@ -97,10 +97,10 @@ module _ {A : Type 0} (G : Letters A) (L : LetterLaws G) where
     record HalfStart (w : List A) (x : Factor) : Type 0 where
       nonblank : 0 < size G S x
       even : size G S x % 2 ≡ 0
-      starts : size G S x ≤ 2 * common G (value G S x) w
+      starts : size G S x ≤ 2 * commonPrefix G (value G S x) w
       other : Factor
       differs : other ≡ x → ⊥
-      meets : size G S x ≤ 2 * cancels G S other (factors .flip x)
+      meets : size G S x ≤ 2 * cancellationOf G S other (factors .flip x)
 
     half-start : (w : List A) (x : Factor) → halfStart G S w x ≡ true → HalfStart w x
     half-start w x e =
@@ -114,23 +114,23 @@ module _ {A : Type 0} (G : Letters A) (L : LetterLaws G) where
           starts = omega (arith, begins-half G L (value G S x) w .0 c);
           other = v;
           differs = n;
-          meets = rw (value-flip G L S x, cancelled-inverse-right G L, common-comm G L (inverse G (value G S v)))
+          meets = rw (value-flip G L S x, cancellation-inverse-right G L, commonPrefix-comm G L (inverse G (value G S v)))
               (omega (arith, begins-back-half G L (value G S x) (inverse G (value G S v)) even .0 t));
         }
 
-    other-element : (w : List A) (x : Factor) (s : HalfStart w x) → Element G S (s .other)
-    other-element w x s = size-element G L S (s .other)
-        (omega (arith, s .nonblank, s .meets, cancelled-le-left G L (value G S (s .other)) (value G S (factors .flip x))))
+    other-notBlank : (w : List A) (x : Factor) (s : HalfStart w x) → NotBlank G S (s .other .slot)
+    other-notBlank w x s = size-notBlank G L S (s .other)
+        (omega (arith, s .nonblank, s .meets, cancellation-le-left G L (value G S (s .other)) (value G S (factors .flip x))))
 
     start-half : (w : List A) (x : Factor) → HalfStart w x → halfStart G S w x ≡ true
     start-half w x s =
-        let m : size G S x ≤ 2 * common G (inverse G (value G S x)) (inverse G (value G S (s .other))) =
-        rw (common-comm G L, ← cancelled-inverse-right G L, ← value-flip G L S x) (s .meets) in
+        let m : size G S x ≤ 2 * commonPrefix G (inverse G (value G S x)) (inverse G (value G S (s .other))) =
+        rw (commonPrefix-comm G L, ← cancellation-inverse-right G L, ← value-flip G L S x) (s .meets) in
         four-all _ _ _ _
         (ap not (ne-eqb (size G S x) 0 (λ z. omega (arith, s .nonblank))))
         (eq-eqb _ _ (s .even))
         (begins-half G L (value G S x) w .1 (omega (arith, s .starts)))
-        (any-found (endsOther G S x) (s .other .slot) (length S) (word-slot G L S (s .other .slot) (other-element w x s))
+        (any-found (endsOther G S x) (s .other .slot) (length S) (word-slot G L S (s .other .slot) (other-notBlank w x s))
         (other-at x (s .other) (s .differs) (begins-back-half G L (value G S x) (inverse G (value G S (s .other))) (s .even) .1 (omega arith))))
 
     -- what leads a word is a big end or a half start
@@ -151,44 +151,44 @@ module _ {A : Type 0} (G : Letters A) (L : LetterLaws G) where
     ]
 
     -- at least half of what leads a word begins it
-    pub leading-half : (w : List A) (x : Factor) → leading G S w ≡ some x → size G S x ≤ 2 * common G (value G S x) w
+    pub leading-half : (w : List A) (x : Factor) → leading G S w ≡ some x → size G S x ≤ 2 * commonPrefix G (value G S x) w
     leading-half w x e = elim (leading-some w x e .1) [
-      | inl p ↦ omega (arith, ltb-true (size G S x) (2 * common G (value G S x) w) p)
+      | inl p ↦ omega (arith, ltb-true (size G S x) (2 * commonPrefix G (value G S x) w) p)
       | inr p ↦ half-start w x p .starts
     ]
 
     -- so that the word does not get longer when it is taken off
-    pub leading-length : (w : List A) (x : Factor) → Tidy G S → Irreducible G w → leading G S w ≡ some x
-        → length (reduce G (inverse G (value G S x) ++ w)) ≤ length w
-    leading-length w x tidy h e =
-        let i : Irreducible G (inverse G (value G S x)) = inverse-irreducible G L (value G S x) (value-irreducible G L S x (tidy (x .slot))) in
+    pub leading-length : (w : List A) (x : Factor) → FreelyReduced G S → Irreducible G w → leading G S w ≡ some x
+        → length (freelyReduce G (inverse G (value G S x) ++ w)) ≤ length w
+    leading-length w x freely h e =
+        let i : Irreducible G (inverse G (value G S x)) = inverse-irreducible G L (value G S x) (value-irreducible G L S x (freely (x .slot))) in
         omega (
           arith,
           leading-half w x e,
-          length-cancelled G L (inverse G (value G S x)) w i h,
-          cancelled-inverse-left G L (value G S x) w,
+          length-cancellation G L (inverse G (value G S x)) w i h,
+          cancellation-inverse-left G L (value G S x) w,
           inverse-length G L (value G S x),
         )
 
-    module _ (tidy : Tidy G S) (reduced : Reduced G S) where
+    module _ (freely : FreelyReduced G S) (reduced : Reduced G S) where
       module _ (f : Factor) (p : List Factor) (r : FreelyReducedOver G S (f ∷ p)) where
         -- the inverse of an element other than the first factor cancels against the product as against that factor
-        against : (x : Factor) → Element G S x → (x ≡ f → ⊥) → common G (value G S x) (multiplied G S (f ∷ p)) ≡ cancels G S (factors .flip x) f
+        against : (x : Factor) → NotBlank G S (x .slot) → (x ≡ f → ⊥) → commonPrefix G (value G S x) (multiplied G S (f ∷ p)) ≡ cancellationOf G S (factors .flip x) f
         against x h n =
-            sym (cancelled-inverse-left G L (value G S x) (multiplied G S (f ∷ p)))
-            ∙ rw (← value-flip G L S x) (product-cancelled G L S tidy reduced (factors .flip x) f p r h (λ q. n (flip-inj factors factorLaws x f q)))
+            sym (cancellation-inverse-left G L (value G S x) (multiplied G S (f ∷ p)))
+            ∙ rw (← value-flip G L S x) (product-cancellation G L S freely reduced (factors .flip x) f p r h (λ q. n (flip-inj factors factorLaws x f q)))
 
         -- a big end is the first factor
         big-first : (x : Factor) → bigEnd G S (multiplied G S (f ∷ p)) x ≡ true → x ≡ f
         big-first x e =
-            let b : size G S x < 2 * common G (value G S x) (multiplied G S (f ∷ p)) = ltb-true _ _ e in
-            let h : Element G S x = size-element G L S x (omega (arith, common-le-left G L (value G S x) (multiplied G S (f ∷ p)))) in
+            let b : size G S x < 2 * commonPrefix G (value G S x) (multiplied G S (f ∷ p)) = ltb-true _ _ e in
+            let h : NotBlank G S (x .slot) = size-notBlank G L S x (omega (arith, commonPrefix-le-left G L (value G S x) (multiplied G S (f ∷ p)))) in
             elim (same? factors factorLaws x f) [
               | yes q ↦ q
               | no n ↦ absurd (omega (
                 arith,
                 against x h n,
-                cancels-half G L S tidy reduced (factors .flip x) f h (r .0 .0) (λ q. n (flip-inj factors factorLaws x f q)),
+                cancellation-half G L S freely reduced (factors .flip x) f h (r .0 .0) (λ q. n (flip-inj factors factorLaws x f q)),
                 value-length G L S x,
                 value-length G L S (factors .flip x),
               ))
@@ -198,9 +198,9 @@ module _ {A : Type 0} (G : Letters A) (L : LetterLaws G) where
         half-first : (x : Factor) → halfStart G S (multiplied G S (f ∷ p)) x ≡ true → x ≡ f
         half-first x e =
             let s : HalfStart (multiplied G S (f ∷ p)) x = half-start (multiplied G S (f ∷ p)) x e in
-            let h : Element G S x = size-element G L S x (s .nonblank) in
+            let h : NotBlank G S (x .slot) = size-notBlank G L S x (s .nonblank) in
             let v : Factor = s .other in
-            let k : Element G S v = other-element (multiplied G S (f ∷ p)) x s in
+            let k : NotBlank G S (v .slot) = other-notBlank (multiplied G S (f ∷ p)) x s in
             elim (same? factors factorLaws x f) [
               | yes q ↦ q
               | no n ↦ absurd (omega (
@@ -218,23 +218,23 @@ module _ {A : Type 0} (G : Letters A) (L : LetterLaws G) where
       -- than half of it, or a half, and then the second factor's inverse ends with the other half
       factor-found : (f : Factor) (p : List Factor) → FreelyReducedOver G S (f ∷ p)
           → (bigEnd G S (multiplied G S (f ∷ p)) f ≡ true) ⊎ (halfStart G S (multiplied G S (f ∷ p)) f ≡ true)
-      factor-found f [] r = inl (lt-ltb (size G S f) (2 * common G (value G S f) (multiplied G S (f ∷ [])))
-          (rw (append-nil (value G S f), reduce-same G L (value G S f) (value-irreducible G L S f (tidy (f .slot))), common-self G L (value G S f))
-          (omega (arith, element-size G L S f (r .0 .0)))))
+      factor-found f [] r = inl (lt-ltb (size G S f) (2 * commonPrefix G (value G S f) (multiplied G S (f ∷ [])))
+          (rw (append-nil (value G S f), freelyReduce-same G L (value G S f) (value-irreducible G L S f (freely (f .slot))), commonPrefix-self G L (value G S f))
+          (omega (arith, notBlank-size G L S f (r .0 .0)))))
       factor-found f (g ∷ p) r =
           let w : List A = multiplied G S (f ∷ g ∷ p) in
-          let k : size G S f ≤ cancels G S f g + common G (value G S f) w = product-rest G L S tidy reduced f g p r in
+          let k : size G S f ≤ cancellationOf G S f g + commonPrefix G (value G S f) w = product-rest G L S freely reduced f g p r in
           let n : f ≡ factors .flip g → ⊥ = not-turn g f (irreducible-next factors factorLaws f g p r.1) in
-          let h = cancels-half G L S tidy reduced f g (r .0 .0) (r .0 .1 .0) n in
-          elim (decLt (size G S f) (2 * common G (value G S f) w)) [
+          let h = cancellation-half G L S freely reduced f g (r .0 .0) (r .0 .1 .0) n in
+          elim (decLt (size G S f) (2 * commonPrefix G (value G S f) w)) [
             | yes b ↦ inl (lt-ltb _ _ b)
             | no b ↦ inr (start-half w f (record {
-              nonblank = element-size G L S f (r .0 .0);
+              nonblank = notBlank-size G L S f (r .0 .0);
               even = omega arith;
               starts = omega arith;
               other = factors .flip g;
               differs = λ q. n (sym q);
-              meets = rw (value-flip G L S g, value-flip G L S f, ← cancelled-inverses G L) (omega arith);
+              meets = rw (value-flip G L S g, value-flip G L S f, ← cancellation-inverses G L) (omega arith);
             }))
           ]
 

@@ -8,18 +8,18 @@ use mathlib.Core.List.{List, [], _∷_, _++_, append-nil}
 use native.Mathlib.Nat.{zero-add, suc-add}
 use native.Mathlib.Omega.{arith}
 use lib.ListN.{length, take}
-use Rattle.words.specs.Letters.{Letters}
-use Rattle.words.proofs.Letters.{LetterLaws}
-use Rattle.systems.specs.Products.{word, Tidy}
+use Rattle.words.specs.Alphabet.{Alphabet}
+use Rattle.words.proofs.Alphabet.{AlphabetLaws}
+use Rattle.systems.specs.Products.{word, FreelyReduced}
 use Rattle.systems.specs.Moves.{Move, movedWord, made, madeAll}
 use Rattle.systems.specs.Reduced.{Reduced}
 use Rattle.systems.specs.Rules.{shortening, halfEnd, next, movesWithin, runWithin}
 use Rattle.systems.proofs.Searching.{option-cases, some-not-none}
-use Rattle.systems.proofs.Undoing.{set-holds, made-tidy, madeAll-length, madeAll-append, madeAll-tidy}
+use Rattle.systems.proofs.Undoing.{set-holds, made-freelyReduced, madeAll-length, madeAll-append, madeAll-freelyReduced}
 use Rattle.systems.proofs.Shortening.{Allowed, AtMostHalf, shortening-none, shortening-allowed, shortening-shorter}
 use Rattle.systems.proofs.HalfEnds.{halfEnd-none, halfEnd-allowed, halfEnd-no-longer, halfEnd-same-length}
 
-module _ {A : Type 0} (G : Letters A) where
+module _ {A : Type 0} (G : Alphabet A) where
   -- a move between two different slots that are not blank, which lengthens no word
   pub record Valid (S : List (List A)) (m : Move) : Type 0 where
     pub allowed : Allowed G S m
@@ -83,13 +83,6 @@ module _ {A : Type 0} (G : Letters A) where
   pub run-more : (n : ℕ) (S : List (List A)) (m : Move) → next G S ≡ some m → runWithin G (suc n) S ≡ runWithin G n (made G S m)
   run-more n S m e = rw (moves-more n S m e)
 
-  pub moves-few : (n : ℕ) (S : List (List A)) → length (movesWithin G n S) ≤ n
-  moves-few zero S = omega arith
-  moves-few (suc n) S = elim (option-cases (next G S)) [
-    | inl e ↦ rw (moves-stop (suc n) S e) (omega arith)
-    | inr r ↦ rw (moves-more n S r.0 r.1) (omega (arith, moves-few n (made G S r.0)))
-  ]
-
   -- a run with room for just its own moves is the same
   pub moves-again : (n : ℕ) (S : List (List A)) → movesWithin G (length (movesWithin G n S)) S ≡ movesWithin G n S
   moves-again zero S = refl
@@ -102,13 +95,7 @@ module _ {A : Type 0} (G : Letters A) where
   pub run-length : (n : ℕ) (S : List (List A)) → length (runWithin G n S) ≡ length S
   run-length n S = madeAll-length G S (movesWithin G n S)
 
-  -- one move more where a log has room for it
-  pub moves-room : (room used : ℕ) (S : List (List A)) (m : Move) → used < room → next G S ≡ some m
-      → movesWithin G (room - used) S ≡ m ∷ movesWithin G (room - (used + 1)) (made G S m)
-  moves-room room used S m h e =
-      let q : room - used ≡ suc (room - (used + 1)) = omega arith in
-      rw q (moves-more (room - (used + 1)) S m e)
-
+  -- so many moves, and then more
   pub moves-then : (n k : ℕ) (S : List (List A)) → movesWithin G (n + k) S ≡ movesWithin G n S ++ movesWithin G k (runWithin G n S)
   moves-then zero k S = rw zero-add
   moves-then (suc n) k S = elim (option-cases (next G S)) [
@@ -145,58 +132,52 @@ module _ {A : Type 0} (G : Letters A) where
     | inr r ↦ rw (moves-more n S r.0 r.1) (ap suc (moves-full n (made G S r.0) m (rw (run-more n S r.0 r.1) at e)))
   ]
 
-  pub moves-short : (n : ℕ) (S : List (List A)) → length (movesWithin G n S) < n → next G (runWithin G n S) ≡ none
-  moves-short n S h = elim (option-cases (next G (runWithin G n S))) [
-    | inl e ↦ e
-    | inr r ↦ absurd (omega (arith, moves-full n S r.0 r.1))
-  ]
+module _ {A : Type 0} (G : Alphabet A) (L : AlphabetLaws G) where
+  pub run-freelyReduced : (n : ℕ) (S : List (List A)) → FreelyReduced G S → FreelyReduced G (runWithin G n S)
+  run-freelyReduced n S h = madeAll-freelyReduced G L S (movesWithin G n S) h
 
-module _ {A : Type 0} (G : Letters A) (L : LetterLaws G) where
-  pub run-tidy : (n : ℕ) (S : List (List A)) → Tidy G S → Tidy G (runWithin G n S)
-  run-tidy n S h = madeAll-tidy G L S (movesWithin G n S) h
-
-  pub next-valid : (S : List (List A)) → Tidy G S → (m : Move) → next G S ≡ some m → Valid G S m
-  next-valid S tidy m e = elim (next-from G S m e) [
-    | inl s ↦ record { allowed = shortening-allowed G L S tidy m s; no-longer = omega (arith, shortening-shorter G L S tidy m s) }
-    | inr h ↦ record { allowed = halfEnd-allowed G L S m h.1; no-longer = halfEnd-no-longer G L S tidy m h.1 }
+  pub next-valid : (S : List (List A)) → FreelyReduced G S → (m : Move) → next G S ≡ some m → Valid G S m
+  next-valid S freely m e = elim (next-from G S m e) [
+    | inl s ↦ record { allowed = shortening-allowed G L S freely m s; no-longer = omega (arith, shortening-shorter G L S freely m s) }
+    | inr h ↦ record { allowed = halfEnd-allowed G L S m h.1; no-longer = halfEnd-no-longer G L S freely m h.1 }
   ]
 
   -- a move shortens its word strictly, or is a half-end move and keeps the length
-  pub next-length : (S : List (List A)) → Tidy G S → (m : Move) → next G S ≡ some m
+  pub next-length : (S : List (List A)) → FreelyReduced G S → (m : Move) → next G S ≡ some m
       → (length (movedWord G S m) < length (word G S (m .changed)))
       ⊎ ((shortening G S ≡ none) × (halfEnd G S ≡ some m) × (length (movedWord G S m) ≡ length (word G S (m .changed))))
-  next-length S tidy m e = elim (next-from G S m e) [
-    | inl s ↦ inl (shortening-shorter G L S tidy m s)
-    | inr h ↦ inr (h .0, h .1, halfEnd-same-length G L S tidy (shortening-none G L S tidy .0 h.0) m h.1)
+  next-length S freely m e = elim (next-from G S m e) [
+    | inl s ↦ inl (shortening-shorter G L S freely m s)
+    | inr h ↦ inr (h .0, h .1, halfEnd-same-length G L S freely (shortening-none G L S freely .0 h.0) m h.1)
   ]
 
   -- each move of a run is valid at its point
-  pub run-valid : (n : ℕ) (S : List (List A)) → Tidy G S → ValidMoves G S (movesWithin G n S)
-  run-valid zero S tidy = tt
-  run-valid (suc n) S tidy = elim (option-cases (next G S)) [
+  pub run-valid : (n : ℕ) (S : List (List A)) → FreelyReduced G S → ValidMoves G S (movesWithin G n S)
+  run-valid zero S freely = tt
+  run-valid (suc n) S freely = elim (option-cases (next G S)) [
     | inl e ↦ rw (moves-stop G (suc n) S e) tt
-    | inr r ↦ rw (moves-more G n S r.0 r.1) (next-valid S tidy r.0 r.1, run-valid n (made G S r.0) (made-tidy G L S r.0 tidy))
+    | inr r ↦ rw (moves-more G n S r.0 r.1) (next-valid S freely r.0 r.1, run-valid n (made G S r.0) (made-freelyReduced G L S r.0 freely))
   ]
 
   -- no word of a run grows beyond the longest word at its start
-  pub run-within : (n : ℕ) (S : List (List A)) (b : ℕ) → Tidy G S → Within G b S → Within G b (runWithin G n S)
-  run-within n S b tidy h = madeAll-within G S (movesWithin G n S) b (run-valid n S tidy) h
+  pub run-within : (n : ℕ) (S : List (List A)) (b : ℕ) → FreelyReduced G S → Within G b S → Within G b (runWithin G n S)
+  run-within n S b freely h = madeAll-within G S (movesWithin G n S) b (run-valid n S freely) h
 
-  module _ (moves : (x : A) → G .flip x ≡ x → ⊥) where
+  module _ (noOwnInverse : (x : A) → G .flip x ≡ x → ⊥) where
     -- "A system is reduced when, for two elements of its words and inverses that stand in different slots, no product of them cancels more
     -- than half of either, and in no product of three is the middle one wholly cancelled": exactly when neither rule applies
-    pub next-none : (S : List (List A)) → Tidy G S → (next G S ≡ none) ↔ Reduced G S
-    next-none S tidy = (to, of)
+    pub next-none : (S : List (List A)) → FreelyReduced G S → (next G S ≡ none) ↔ Reduced G S
+    next-none S freely = (to, of)
       where
         to : next G S ≡ none → Reduced G S
         to e =
             let neither = next-neither G S e in
-            let half : AtMostHalf G S = shortening-none G L S tidy .0 neither.0 in
-            record { half = half; middle = halfEnd-none G L S moves tidy half .0 neither.1 }
+            let half : AtMostHalf G S = shortening-none G L S freely .0 neither.0 in
+            record { half = half; middle = halfEnd-none G L S noOwnInverse freely half .0 neither.1 }
 
         of : Reduced G S → next G S ≡ none
-        of r = next-halfEnd G S (shortening-none G L S tidy .1 (r .half)) ∙ halfEnd-none G L S moves tidy (r .half) .1 (r .middle)
+        of r = next-halfEnd G S (shortening-none G L S freely .1 (r .half)) ∙ halfEnd-none G L S noOwnInverse freely (r .half) .1 (r .middle)
 
     -- "repeat until neither rule applies": what a run leaves then is reduced
-    pub run-reduced : (n : ℕ) (S : List (List A)) → Tidy G S → next G (runWithin G n S) ≡ none → Reduced G (runWithin G n S)
-    run-reduced n S tidy e = next-none (runWithin G n S) (run-tidy n S tidy) .0 e
+    pub run-reduced : (n : ℕ) (S : List (List A)) → FreelyReduced G S → next G (runWithin G n S) ≡ none → Reduced G (runWithin G n S)
+    run-reduced n S freely e = next-none (runWithin G n S) (run-freelyReduced n S freely) .0 e

@@ -6,13 +6,13 @@ use mathlib.Core.List.{List, [], _∷_, _++_, append-assoc, append-nil}
 use native.Mathlib.Omega.{arith}
 use native.Mathlib.Decide.{decLt}
 use lib.ListN.{length, List·getD-eq-default}
-use Rattle.words.specs.Letters.{Letters}
-use Rattle.words.specs.Words.{push, reduce, Irreducible, inverse}
-use Rattle.words.proofs.Letters.{LetterLaws, same?}
-use Rattle.words.proofs.Reduction.{push-cancel, push-keep, reduce-irreducible, reduce-both, reduce-right, reduce-empty-left, irreducible-tail}
-use Rattle.words.proofs.Inverse.{inverse-nil, inverse-cons, inverse-append, reduce-inverse, reduce-self-inverse}
-use Rattle.systems.specs.Products.{Factor, factors, word, value, spelled, multiplied, Over, OverWords, FreelyReducedOver}
-use Rattle.systems.proofs.Factors.{empty?, factorLaws, value-flip, value-blank, NotBlank}
+use Rattle.words.specs.Alphabet.{Alphabet}
+use Rattle.words.specs.Words.{push, freelyReduce, Irreducible, inverse}
+use Rattle.words.proofs.Alphabet.{AlphabetLaws, same?}
+use Rattle.words.proofs.FreeReduction.{push-cancel, push-keep, freelyReduce-irreducible, freelyReduce-both, freelyReduce-right, freelyReduce-empty-left, irreducible-tail}
+use Rattle.words.proofs.Inverse.{inverse-nil, inverse-cons, inverse-append, freelyReduce-inverse, freelyReduce-self-inverse}
+use Rattle.systems.specs.Products.{Factor, factors, word, value, spelled, multiplied, Over, OverWords, FreelyReducedOver, NotBlank}
+use Rattle.systems.proofs.Factors.{empty?, factorLaws, value-flip, value-blank}
 
 -- a product names only slots of which P holds
 abbrev pub Named : (ℕ → Type 0) → List Factor → Type 0
@@ -35,28 +35,28 @@ module _ (P : ℕ → Type 0) where
     | no n ↦ rw (push-keep factors factorLaws f g p n) h
   ]
 
-  pub named-reduce : (p : List Factor) → Named P p → Named P (reduce factors p)
-  named-reduce [] h = h
-  named-reduce (f ∷ p) h = named-push f (reduce factors p) (h .0, named-reduce p h.1)
+  pub named-freelyReduce : (p : List Factor) → Named P p → Named P (freelyReduce factors p)
+  named-freelyReduce [] h = h
+  named-freelyReduce (f ∷ p) h = named-push f (freelyReduce factors p) (h .0, named-freelyReduce p h.1)
 
-module _ {A : Type 0} (G : Letters A) (L : LetterLaws G) (S : List (List A)) where
+module _ {A : Type 0} (G : Alphabet A) (L : AlphabetLaws G) (S : List (List A)) where
   pub spelled-append : (p q : List Factor) → spelled G S (p ++ q) ≡ spelled G S p ++ spelled G S q
   spelled-append [] q = refl
   spelled-append (f ∷ p) q = rw (spelled-append p q, append-assoc)
 
-  pub multiplied-append : (p q : List Factor) → multiplied G S (p ++ q) ≡ reduce G (multiplied G S p ++ multiplied G S q)
-  multiplied-append p q = rw (spelled-append p q) (reduce-both G L (spelled G S p) (spelled G S q))
+  pub multiplied-append : (p q : List Factor) → multiplied G S (p ++ q) ≡ freelyReduce G (multiplied G S p ++ multiplied G S q)
+  multiplied-append p q = rw (spelled-append p q) (freelyReduce-both G L (spelled G S p) (spelled G S q))
 
-  pub multiplied-cons : (f : Factor) (p : List Factor) → multiplied G S (f ∷ p) ≡ reduce G (value G S f ++ multiplied G S p)
-  multiplied-cons f p = reduce-right G L (value G S f) (spelled G S p)
+  pub multiplied-cons : (f : Factor) (p : List Factor) → multiplied G S (f ∷ p) ≡ freelyReduce G (value G S f ++ multiplied G S p)
+  multiplied-cons f p = freelyReduce-right G L (value G S f) (spelled G S p)
 
   pub multiplied-irreducible : (p : List Factor) → Irreducible G (multiplied G S p)
-  multiplied-irreducible p = reduce-irreducible G L (spelled G S p)
+  multiplied-irreducible p = freelyReduce-irreducible G L (spelled G S p)
 
   -- a factor beside its own inverse goes
   pub multiplied-pair : (f : Factor) (p : List Factor) → multiplied G S (f ∷ factors .flip f ∷ p) ≡ multiplied G S p
   multiplied-pair f p = rw (value-flip G L S f, ← append-assoc)
-      (reduce-empty-left G L (value G S f ++ inverse G (value G S f)) (spelled G S p) (reduce-self-inverse G L (value G S f)))
+      (freelyReduce-empty-left G L (value G S f ++ inverse G (value G S f)) (spelled G S p) (freelyReduce-self-inverse G L (value G S f)))
 
   pub spelled-inverse : (p : List Factor) → spelled G S (inverse factors p) ≡ inverse G (spelled G S p)
   spelled-inverse [] = rw (inverse-nil factors factorLaws, inverse-nil G L)
@@ -64,7 +64,7 @@ module _ {A : Type 0} (G : Letters A) (L : LetterLaws G) (S : List (List A)) whe
 
   -- the inverse product multiplies out to the inverse word
   pub multiplied-inverse : (p : List Factor) → multiplied G S (inverse factors p) ≡ inverse G (multiplied G S p)
-  multiplied-inverse p = rw (spelled-inverse p) (reduce-inverse G L (spelled G S p))
+  multiplied-inverse p = rw (spelled-inverse p) (freelyReduce-inverse G L (spelled G S p))
 
   multiplied-push : (f : Factor) (p : List Factor) → multiplied G S (push factors f p) ≡ multiplied G S (f ∷ p)
   multiplied-push f [] = refl
@@ -74,13 +74,13 @@ module _ {A : Type 0} (G : Letters A) (L : LetterLaws G) (S : List (List A)) whe
   ]
 
   -- a product multiplies out as it does after its own neighbours have cancelled
-  pub multiplied-reduce : (p : List Factor) → multiplied G S (reduce factors p) ≡ multiplied G S p
-  multiplied-reduce [] = refl
-  multiplied-reduce (f ∷ p) = multiplied-push f (reduce factors p) ∙ rw (multiplied-cons f (reduce factors p), multiplied-cons f p, multiplied-reduce p)
+  pub multiplied-freelyReduce : (p : List Factor) → multiplied G S (freelyReduce factors p) ≡ multiplied G S p
+  multiplied-freelyReduce [] = refl
+  multiplied-freelyReduce (f ∷ p) = multiplied-push f (freelyReduce factors p) ∙ rw (multiplied-cons f (freelyReduce factors p), multiplied-cons f p, multiplied-freelyReduce p)
 
   -- a product that cancels over the slots comes to the empty word
-  pub multiplied-trivial : (p : List Factor) → reduce factors p ≡ [] → multiplied G S p ≡ []
-  multiplied-trivial p e = sym (multiplied-reduce p) ∙ ap (multiplied G S) e
+  pub multiplied-trivial : (p : List Factor) → freelyReduce factors p ≡ [] → multiplied G S p ≡ []
+  multiplied-trivial p e = sym (multiplied-freelyReduce p) ∙ ap (multiplied G S) e
 
   pub named-over : (p : List Factor) → Named (λ k. k < length S) p → Over G S p
   named-over [] h = h
@@ -98,15 +98,6 @@ module _ {A : Type 0} (G : Letters A) (L : LetterLaws G) (S : List (List A)) whe
   words-named P [] t h = h
   words-named P (f ∷ p) t h = (t (f .slot) h.0, words-named P p t h.1)
 
-  pub over-append : (p q : List Factor) → Over G S p → Over G S q → Over G S (p ++ q)
-  over-append p q h k = named-over (p ++ q) (named-append _ p q (over-named p h) (over-named q k))
-
-  pub over-inverse : (p : List Factor) → Over G S p → Over G S (inverse factors p)
-  over-inverse p h = named-over (inverse factors p) (named-inverse _ p (over-named p h))
-
-  pub over-reduce : (p : List Factor) → Over G S p → Over G S (reduce factors p)
-  over-reduce p h = named-over (reduce factors p) (named-reduce _ p (over-named p h))
-
   named-notBlank : (p : List Factor) → Named (NotBlank G S) p → OverWords G S p
   named-notBlank p h = named-words (NotBlank G S) p (λ k n. n) h
 
@@ -119,8 +110,8 @@ module _ {A : Type 0} (G : Letters A) (L : LetterLaws G) (S : List (List A)) whe
   pub overWords-inverse : (p : List Factor) → OverWords G S p → OverWords G S (inverse factors p)
   overWords-inverse p h = named-notBlank (inverse factors p) (named-inverse _ p (notBlank-named p h))
 
-  pub overWords-reduce : (p : List Factor) → OverWords G S p → OverWords G S (reduce factors p)
-  overWords-reduce p h = named-notBlank (reduce factors p) (named-reduce _ p (notBlank-named p h))
+  pub overWords-freelyReduce : (p : List Factor) → OverWords G S p → OverWords G S (freelyReduce factors p)
+  overWords-freelyReduce p h = named-notBlank (freelyReduce factors p) (named-freelyReduce _ p (notBlank-named p h))
 
   -- a slot that the system has not is blank
   pub word-slot : (k : ℕ) → NotBlank G S k → k < length S
@@ -149,4 +140,4 @@ module _ {A : Type 0} (G : Letters A) (L : LetterLaws G) (S : List (List A)) whe
   pub freely-reduced : (p : List Factor) → (q : List Factor) × FreelyReducedOver G S q × (multiplied G S q ≡ multiplied G S p)
   freely-reduced p =
       let (q, o, m) = unblanked p in
-      (reduce factors q, (overWords-reduce q o, reduce-irreducible factors factorLaws q), multiplied-reduce q ∙ m)
+      (freelyReduce factors q, (overWords-freelyReduce q o, freelyReduce-irreducible factors factorLaws q), multiplied-freelyReduce q ∙ m)

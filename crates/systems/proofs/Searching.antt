@@ -3,7 +3,7 @@
 -- tests put together.
 use Prim.Native.Nat.{ℕ, zero, suc, _+_, _<_}
 use mathlib.Core.Path.{_≡_, refl, sym, _∙_}
-use mathlib.Core.Logic.{_↔_, _⊎_, inl, inr}
+use mathlib.Core.Logic.{_⊎_, inl, inr}
 use mathlib.Core.Bool.{Bool, true, false, cond, not, _&&_, _||_, true≢false}
 use mathlib.Core.Option.{Option, none, some}
 use native.Mathlib.Numerals.{add-one}
@@ -31,10 +31,6 @@ not-none-some (some b) n = (b, refl)
 pub not-true-false : (t : Bool) → (t ≡ true → ⊥) → t ≡ false
 not-true-false true n = absurd (n refl)
 not-true-false false n = refl
-
-pub not-false-true : (t : Bool) → (t ≡ false → ⊥) → t ≡ true
-not-false-true true n = refl
-not-false-true false n = absurd (n refl)
 
 pub true-not-false : (t : Bool) → t ≡ true → t ≡ false → ⊥
 true-not-false t e n = true≢false (sym e ∙ n)
@@ -138,10 +134,6 @@ module _ {B : Type 0} (f : ℕ → Option B) where
   first-nowhere zero h = refl
   first-nowhere (suc n) h = first-more n (first-nowhere n (λ i l. h i (omega arith))) (h n (omega arith))
 
-  -- nothing is found exactly where every number below n gives nothing
-  pub first-none : (n : ℕ) → (first f n ≡ none) ↔ ((i : ℕ) → i < n → f i ≡ none)
-  first-none n = (first-each n, first-nowhere n)
-
   -- what is found is given by a number below n, and by none before it
   pub first-some : (n : ℕ) (b : B) → first f n ≡ some b → (i : ℕ) × (i < n) × (f i ≡ some b) × ((j : ℕ) → j < i → f j ≡ none)
   first-some zero b e = let z : _≡_ {A = ℕ} 0 1 = cc in absurd (omega arith)
@@ -190,17 +182,10 @@ module _ (f : ℕ → Bool) where
       widen : (i : ℕ) × (i < n) × (f i ≡ true) → (i : ℕ) × (i < suc n) × (f i ≡ true)
       widen s = (s .0, omega arith, s .2)
 
-  -- the test holds somewhere below n
-  pub any-true : (n : ℕ) → (anyBelow f n ≡ true) ↔ ((i : ℕ) × (i < n) × (f i ≡ true))
-  any-true n = (any-where n, λ s. any-found s.0 n s.1 s.2)
-
+  -- the test fails everywhere below n
   pub any-each : (n : ℕ) → anyBelow f n ≡ false → (i : ℕ) → i < n → f i ≡ false
   any-each n e i h = not-true-false (f i) (λ t. true-not-false (anyBelow f n) (any-found i n h t) e)
 
   pub any-nowhere : (n : ℕ) → ((i : ℕ) → i < n → f i ≡ false) → anyBelow f n ≡ false
   any-nowhere zero h = refl
   any-nowhere (suc n) h = any-more n (any-nowhere n (λ i l. h i (omega arith))) (h n (omega arith))
-
-  -- the test holds nowhere below n
-  pub any-false : (n : ℕ) → (anyBelow f n ≡ false) ↔ ((i : ℕ) → i < n → f i ≡ false)
-  any-false n = (any-each n, any-nowhere n)

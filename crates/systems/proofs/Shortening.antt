@@ -11,14 +11,14 @@ use native.Mathlib.Decide.{decLt, ℕ-discrete}
 use lib.ListN.{length}
 use lib.Dec.{ltb, eqb}
 use borrow.Author.Tests.{ltb-true, ltb-false, lt-ltb, le-ltb, eqb-false, eq-eqb, ne-eqb}
-use Rattle.words.specs.Letters.{Letters}
-use Rattle.words.specs.Words.{reduce, Irreducible, inverse, cancelled}
-use Rattle.words.proofs.Letters.{LetterLaws}
+use Rattle.words.specs.Alphabet.{Alphabet}
+use Rattle.words.specs.Words.{freelyReduce, Irreducible, inverse, cancellation}
+use Rattle.words.proofs.Alphabet.{AlphabetLaws}
 use Rattle.words.proofs.Inverse.{inverse-length, inverse-twice, inverse-irreducible}
-use Rattle.words.proofs.Cancellation.{length-cancelled, cancelled-inverses, cancelled-le-left, cancelled-le-right}
-use Rattle.systems.specs.Products.{Factor, factors, word, value, Tidy}
+use Rattle.words.proofs.Cancellation.{length-cancellation, cancellation-inverses, cancellation-le-left, cancellation-le-right}
+use Rattle.systems.specs.Products.{Factor, factors, word, value, FreelyReduced, NotBlank}
 use Rattle.systems.specs.Moves.{Form, form₁, form₂, form₃, form₄, Move, formed, movedWord, seam}
-use Rattle.systems.specs.Reduced.{Element, cancels, size}
+use Rattle.systems.specs.Reduced.{cancellationOf, size}
 use Rattle.systems.specs.Rules.{first, formAt, tryForm, tryOther, tryChanged, shortening}
 use Rattle.systems.proofs.Searching.{option-cases, given-some, given-none, unless-some, first-each, first-some, first-found}
 use Rattle.systems.proofs.Factors.{word-nonempty, value-flip, value-length}
@@ -64,12 +64,12 @@ formPlace-few form₂ = omega arith
 formPlace-few form₃ = omega arith
 formPlace-few form₄ = omega arith
 
-module _ {A : Type 0} (G : Letters A) where
+module _ {A : Type 0} (G : Alphabet A) where
   -- "for two elements of its words and inverses that stand in different slots, no product of them cancels more than half of either":
   -- the first condition of a reduced system
   abbrev pub AtMostHalf : List (List A) → Type 0
-  AtMostHalf S = (x y : Factor) → Element G S x → Element G S y → (x .slot ≡ y .slot → ⊥)
-      → (2 * cancels G S x y ≤ size G S x) × (2 * cancels G S x y ≤ size G S y)
+  AtMostHalf S = (x y : Factor) → NotBlank G S (x .slot) → NotBlank G S (y .slot) → (x .slot ≡ y .slot → ⊥)
+      → (2 * cancellationOf G S x y ≤ size G S x) × (2 * cancellationOf G S x y ≤ size G S y)
 
   -- a move between two slots of the system: "Only slots that are not blank take part."
   pub record Allowed (S : List (List A)) (m : Move) : Type 0 where
@@ -86,42 +86,42 @@ module _ {A : Type 0} (G : Letters A) where
     pub other-inside : m .other < length S
     pub shorter : length (movedWord G S m) < length (word G S (m .changed))
 
-module _ {A : Type 0} (G : Letters A) (L : LetterLaws G) where
+module _ {A : Type 0} (G : Alphabet A) (L : AlphabetLaws G) where
   pub formed-length : (form : Form) (u v : List A) → Irreducible G u → Irreducible G v
-      → length (reduce G (formed G form u v)) + 2 * seam G form u v ≡ length u + length v
-  formed-length form₁ u v h k = length-cancelled G L u v h k
-  formed-length form₂ u v h k = length-cancelled G L (inverse G u) v (inverse-irreducible G L u h) k ∙ ap (λ (n : ℕ). n + length v) (inverse-length G L u)
-  formed-length form₃ u v h k = omega (arith, length-cancelled G L v u k h)
-  formed-length form₄ u v h k = omega (arith, length-cancelled G L v (inverse G u) k (inverse-irreducible G L u h), inverse-length G L u)
+      → length (freelyReduce G (formed G form u v)) + 2 * seam G form u v ≡ length u + length v
+  formed-length form₁ u v h k = length-cancellation G L u v h k
+  formed-length form₂ u v h k = length-cancellation G L (inverse G u) v (inverse-irreducible G L u h) k ∙ ap (λ (n : ℕ). n + length v) (inverse-length G L u)
+  formed-length form₃ u v h k = omega (arith, length-cancellation G L v u k h)
+  formed-length form₄ u v h k = omega (arith, length-cancellation G L v (inverse G u) k (inverse-irreducible G L u h), inverse-length G L u)
 
   -- the result is shorter than the changed word exactly when more than half of the other word cancels
   pub formed-shorter : (form : Form) (u v : List A) → Irreducible G u → Irreducible G v
-      → (length (reduce G (formed G form u v)) < length v) ↔ (length u < 2 * seam G form u v)
+      → (length (freelyReduce G (formed G form u v)) < length v) ↔ (length u < 2 * seam G form u v)
   formed-shorter form u v h k = let e = formed-length form u v h k in omega arith
 
   pub seam-le-other : (form : Form) (u v : List A) → seam G form u v ≤ length u
-  seam-le-other form₁ u v = cancelled-le-left G L u v
-  seam-le-other form₂ u v = omega (arith, cancelled-le-left G L (inverse G u) v, inverse-length G L u)
-  seam-le-other form₃ u v = cancelled-le-right G L v u
-  seam-le-other form₄ u v = omega (arith, cancelled-le-right G L v (inverse G u), inverse-length G L u)
+  seam-le-other form₁ u v = cancellation-le-left G L u v
+  seam-le-other form₂ u v = omega (arith, cancellation-le-left G L (inverse G u) v, inverse-length G L u)
+  seam-le-other form₃ u v = cancellation-le-right G L v u
+  seam-le-other form₄ u v = omega (arith, cancellation-le-right G L v (inverse G u), inverse-length G L u)
 
   pub seam-le-changed : (form : Form) (u v : List A) → seam G form u v ≤ length v
-  seam-le-changed form₁ u v = cancelled-le-right G L u v
-  seam-le-changed form₂ u v = cancelled-le-right G L (inverse G u) v
-  seam-le-changed form₃ u v = cancelled-le-left G L v u
-  seam-le-changed form₄ u v = cancelled-le-left G L v (inverse G u)
+  seam-le-changed form₁ u v = cancellation-le-right G L u v
+  seam-le-changed form₂ u v = cancellation-le-right G L (inverse G u) v
+  seam-le-changed form₃ u v = cancellation-le-left G L v u
+  seam-le-changed form₄ u v = cancellation-le-left G L v (inverse G u)
 
   module _ (S : List (List A)) where
     -- what cancels in a form is what cancels between two elements
     pub seam-cancels : (form : Form) (i k : ℕ) → seam G form (word G S i) (word G S k)
-        ≡ cancels G S (record { slot = i; inverted = otherSign form }) (record { slot = k; inverted = changedSign form })
+        ≡ cancellationOf G S (record { slot = i; inverted = otherSign form }) (record { slot = k; inverted = changedSign form })
     seam-cancels form₁ i k = refl
     seam-cancels form₂ i k = refl
-    seam-cancels form₃ i k = cancelled-inverses G L (word G S k) (word G S i)
-    seam-cancels form₄ i k = cancelled-inverses G L (word G S k) (inverse G (word G S i))
-        ∙ ap (λ (u : List A). cancelled G u (inverse G (word G S k))) (inverse-twice G L (word G S i))
+    seam-cancels form₃ i k = cancellation-inverses G L (word G S k) (word G S i)
+    seam-cancels form₄ i k = cancellation-inverses G L (word G S k) (inverse G (word G S i))
+        ∙ ap (λ (u : List A). cancellation G u (inverse G (word G S k))) (inverse-twice G L (word G S i))
 
-    formed-signs : (b c : Bool) (i k : ℕ) → cancels G S (record { slot = i; inverted = b }) (record { slot = k; inverted = c })
+    formed-signs : (b c : Bool) (i k : ℕ) → cancellationOf G S (record { slot = i; inverted = b }) (record { slot = k; inverted = c })
         ≡ seam G (formOf b c) (word G S i) (word G S k)
     formed-signs false false i k = sym (seam-cancels form₁ i k)
     formed-signs true false i k = sym (seam-cancels form₂ i k)
@@ -129,27 +129,27 @@ module _ {A : Type 0} (G : Letters A) (L : LetterLaws G) where
     formed-signs false true i k = sym (seam-cancels form₄ i k)
 
     -- and the other way round
-    pub cancels-seam : (x y : Factor) → cancels G S x y ≡ seam G (formOf (x .inverted) (y .inverted)) (word G S (x .slot)) (word G S (y .slot))
+    pub cancels-seam : (x y : Factor) → cancellationOf G S x y ≡ seam G (formOf (x .inverted) (y .inverted)) (word G S (x .slot)) (word G S (y .slot))
     cancels-seam x y = formed-signs (x .inverted) (y .inverted) (x .slot) (y .slot)
 
     -- two elements cancel as much as their inverses in the other order
-    pub cancels-flips : (x y : Factor) → cancels G S x y ≡ cancels G S (factors .flip y) (factors .flip x)
-    cancels-flips x y = cancelled-inverses G L (value G S x) (value G S y) ∙ rw (value-flip G L S x, value-flip G L S y)
+    pub cancels-flips : (x y : Factor) → cancellationOf G S x y ≡ cancellationOf G S (factors .flip y) (factors .flip x)
+    cancels-flips x y = cancellation-inverses G L (value G S x) (value G S y) ∙ rw (value-flip G L S x, value-flip G L S y)
 
-    pub cancels-le-left : (x y : Factor) → cancels G S x y ≤ length (word G S (x .slot))
-    cancels-le-left x y = omega (arith, cancelled-le-left G L (value G S x) (value G S y), value-length G L S x)
+    pub cancels-le-left : (x y : Factor) → cancellationOf G S x y ≤ length (word G S (x .slot))
+    cancels-le-left x y = omega (arith, cancellation-le-left G L (value G S x) (value G S y), value-length G L S x)
 
-    pub cancels-le-right : (x y : Factor) → cancels G S x y ≤ length (word G S (y .slot))
-    cancels-le-right x y = omega (arith, cancelled-le-right G L (value G S x) (value G S y), value-length G L S y)
+    pub cancels-le-right : (x y : Factor) → cancellationOf G S x y ≤ length (word G S (y .slot))
+    cancels-le-right x y = omega (arith, cancellation-le-right G L (value G S x) (value G S y), value-length G L S y)
 
     -- "if the freely reduced result is strictly shorter than w(k)"
-    pub try-shorter : (k i : ℕ) (form : Form) → length (reduce G (formed G form (word G S i) (word G S k))) < length (word G S k)
+    pub try-shorter : (k i : ℕ) (form : Form) → length (freelyReduce G (formed G form (word G S i) (word G S k))) < length (word G S k)
         → tryForm G S k i form ≡ some (record { changed = k; form = form; other = i })
-    try-shorter k i form h = rw (lt-ltb (length (reduce G (formed G form (word G S i) (word G S k)))) (length (word G S k)) h)
+    try-shorter k i form h = rw (lt-ltb (length (freelyReduce G (formed G form (word G S i) (word G S k)))) (length (word G S k)) h)
 
-    pub try-not-shorter : (k i : ℕ) (form : Form) → length (word G S k) ≤ length (reduce G (formed G form (word G S i) (word G S k)))
+    pub try-not-shorter : (k i : ℕ) (form : Form) → length (word G S k) ≤ length (freelyReduce G (formed G form (word G S i) (word G S k)))
         → tryForm G S k i form ≡ none
-    try-not-shorter k i form h = rw (le-ltb (length (reduce G (formed G form (word G S i) (word G S k)))) (length (word G S k)) h)
+    try-not-shorter k i form h = rw (le-ltb (length (freelyReduce G (formed G form (word G S i) (word G S k)))) (length (word G S k)) h)
 
     -- "except k"
     pub other-same : (k i : ℕ) → i ≡ k → tryOther G S k i ≡ none
@@ -171,17 +171,17 @@ module _ {A : Type 0} (G : Letters A) (L : LetterLaws G) where
         first-found (tryChanged G S) k (length S) m h before-k at-k
 
     pub try-found : (k i : ℕ) (form : Form) (m : Move) → tryForm G S k i form ≡ some m
-        → (length (reduce G (formed G form (word G S i) (word G S k))) < length (word G S k)) × (m ≡ record { changed = k; form = form; other = i })
+        → (length (freelyReduce G (formed G form (word G S i) (word G S k))) < length (word G S k)) × (m ≡ record { changed = k; form = form; other = i })
     try-found k i form m e =
-        let new : ℕ = length (reduce G (formed G form (word G S i) (word G S k))) in
+        let new : ℕ = length (freelyReduce G (formed G form (word G S i) (word G S k))) in
         let old : ℕ = length (word G S k) in
         let found = given-some (ltb new old) (record { changed = k; form = form; other = i }) m e in
         (ltb-true new old found.0, found .1)
 
     pub try-missed : (k i : ℕ) (form : Form) → tryForm G S k i form ≡ none
-        → length (word G S k) ≤ length (reduce G (formed G form (word G S i) (word G S k)))
+        → length (word G S k) ≤ length (freelyReduce G (formed G form (word G S i) (word G S k)))
     try-missed k i form e =
-        let new : ℕ = length (reduce G (formed G form (word G S i) (word G S k))) in
+        let new : ℕ = length (freelyReduce G (formed G form (word G S i) (word G S k))) in
         let old : ℕ = length (word G S k) in
         let m : Move = record { changed = k; form = form; other = i } in
         ltb-false new old (given-none (ltb new old) m e)
@@ -217,11 +217,11 @@ module _ {A : Type 0} (G : Letters A) (L : LetterLaws G) where
       | inr r ↦ absurd (n r.0 (shortening-shortens r.0 r.1))
     ]
 
-    module _ (tidy : Tidy G S) where
+    module _ (freely : FreelyReduced G S) where
       -- a move to another slot shortens exactly when more than half of the other word cancels
       pub moved-shorter : (m : Move) → (length (movedWord G S m) < length (word G S (m .changed)))
           ↔ (length (word G S (m .other)) < 2 * seam G (m .form) (word G S (m .other)) (word G S (m .changed)))
-      moved-shorter m = formed-shorter (m .form) (word G S (m .other)) (word G S (m .changed)) (tidy (m .other)) (tidy (m .changed))
+      moved-shorter m = formed-shorter (m .form) (word G S (m .other)) (word G S (m .changed)) (freely (m .other)) (freely (m .changed))
 
       -- both words of a move that shortens are not blank
       pub shortens-allowed : (m : Move) → Shortens G S m → Allowed G S m
@@ -250,10 +250,10 @@ module _ {A : Type 0} (G : Letters A) (L : LetterLaws G) where
           )
 
       -- where nothing shortens, at most half of any element cancels against an element of another slot, blank or not
-      keeps-half : ((m : Move) → Shortens G S m → ⊥) → (x y : Factor) → (x .slot ≡ y .slot → ⊥) → 2 * cancels G S x y ≤ size G S x
+      keeps-half : ((m : Move) → Shortens G S m → ⊥) → (x y : Factor) → (x .slot ≡ y .slot → ⊥) → 2 * cancellationOf G S x y ≤ size G S x
       keeps-half n x y d =
           let m : Move = record { changed = y .slot; form = formOf (x .inverted) (y .inverted); other = x .slot } in
-          elim (decLt (size G S x) (2 * cancels G S x y)) [
+          elim (decLt (size G S x) (2 * cancellationOf G S x y)) [
             | yes h ↦ absurd (n m (record {
               distinct = λ q. d (sym q);
               changed-inside = word-slot G L S (y .slot) (word-nonempty (word G S (y .slot)) (omega (arith, cancels-le-right x y)));

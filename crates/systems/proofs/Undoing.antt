@@ -7,12 +7,12 @@ use native.Mathlib.Omega.{arith}
 use native.Mathlib.Decide.{decLt, ℕ-discrete}
 use lib.ListN.{length, take, drop, getD, set, take-append-drop, length-set}
 use lib.Seq.{getD-set-same, getD-set-other, set-out, set-set, set-getD}
-use Rattle.words.specs.Letters.{Letters}
-use Rattle.words.specs.Words.{reduce, Irreducible}
-use Rattle.words.proofs.Letters.{LetterLaws}
-use Rattle.words.proofs.Reduction.{reduce-irreducible, reduce-same}
-use Rattle.words.proofs.Inverse.{reduce-undo-left, reduce-redo-left, reduce-undo-right, reduce-redo-right}
-use Rattle.systems.specs.Products.{word, Tidy}
+use Rattle.words.specs.Alphabet.{Alphabet}
+use Rattle.words.specs.Words.{freelyReduce, Irreducible}
+use Rattle.words.proofs.Alphabet.{AlphabetLaws}
+use Rattle.words.proofs.FreeReduction.{freelyReduce-irreducible, freelyReduce-same}
+use Rattle.words.proofs.Inverse.{freelyReduce-undo-left, freelyReduce-redo-left, freelyReduce-undo-right, freelyReduce-redo-right}
+use Rattle.systems.specs.Products.{word, FreelyReduced}
 use Rattle.systems.specs.Moves.{Form, form₁, form₂, form₃, form₄, Move, undoing, formed, movedWord, made, undone, madeAll, undoneAll, undo}
 
 -- "with two different slots"
@@ -49,7 +49,7 @@ set-holds P l i b d h p k = elim (decLt i (length l)) [
   ]
 ]
 
-module _ {A : Type 0} (G : Letters A) where
+module _ {A : Type 0} (G : Alphabet A) where
   pub made-length : (S : List (List A)) (m : Move) → length (made G S m) ≡ length S
   made-length S m = length-set S (m .changed) (movedWord G S m)
 
@@ -74,14 +74,6 @@ module _ {A : Type 0} (G : Letters A) where
   pub madeAll-snoc : (S : List (List A)) (ms : List Move) (m : Move) → madeAll G S (ms ++ (m ∷ [])) ≡ made G (madeAll G S ms) m
   madeAll-snoc S ms m = madeAll-append S ms (m ∷ [])
 
-  pub undoneAll-append : (S : List (List A)) (ms ns : List Move) → undoneAll G S (ms ++ ns) ≡ undoneAll G (undoneAll G S ns) ms
-  undoneAll-append S [] ns = refl
-  undoneAll-append S (m ∷ ms) ns = ap (λ (T : List (List A)). undone G T m) (undoneAll-append S ms ns)
-
-  -- "Backward undoes the last move first."
-  pub undoneAll-snoc : (S : List (List A)) (ms : List Move) (m : Move) → undoneAll G S (ms ++ (m ∷ [])) ≡ undoneAll G (undone G S m) ms
-  undoneAll-snoc S ms m = undoneAll-append S ms (m ∷ [])
-
   -- to undo a row of moves is to make the row that takes it back
   pub undoneAll-back : (S : List (List A)) (ms : List Move) → undoneAll G S ms ≡ madeAll G S (back ms)
   undoneAll-back S [] = refl
@@ -90,28 +82,28 @@ module _ {A : Type 0} (G : Letters A) where
   pub undoneAll-length : (S : List (List A)) (ms : List Move) → length (undoneAll G S ms) ≡ length S
   undoneAll-length S ms = rw (undoneAll-back S ms) (madeAll-length S (back ms))
 
-module _ {A : Type 0} (G : Letters A) (L : LetterLaws G) where
+module _ {A : Type 0} (G : Alphabet A) (L : AlphabetLaws G) where
   -- "The words are freely reduced first, and so is each result"
-  pub made-tidy : (S : List (List A)) (m : Move) → Tidy G S → Tidy G (made G S m)
-  made-tidy S m h = set-holds (λ k w. Irreducible G w) S (m .changed) (movedWord G S m) [] h
-      (reduce-irreducible G L (formed G (m .form) (word G S (m .other)) (word G S (m .changed))))
+  pub made-freelyReduced : (S : List (List A)) (m : Move) → FreelyReduced G S → FreelyReduced G (made G S m)
+  made-freelyReduced S m h = set-holds (λ k w. Irreducible G w) S (m .changed) (movedWord G S m) [] h
+      (freelyReduce-irreducible G L (formed G (m .form) (word G S (m .other)) (word G S (m .changed))))
 
-  pub madeAll-tidy : (S : List (List A)) (ms : List Move) → Tidy G S → Tidy G (madeAll G S ms)
-  madeAll-tidy S [] h = h
-  madeAll-tidy S (m ∷ ms) h = madeAll-tidy (made G S m) ms (made-tidy S m h)
+  pub madeAll-freelyReduced : (S : List (List A)) (ms : List Move) → FreelyReduced G S → FreelyReduced G (madeAll G S ms)
+  madeAll-freelyReduced S [] h = h
+  madeAll-freelyReduced S (m ∷ ms) h = madeAll-freelyReduced (made G S m) ms (made-freelyReduced S m h)
 
-  pub undoneAll-tidy : (S : List (List A)) (ms : List Move) → Tidy G S → Tidy G (undoneAll G S ms)
-  undoneAll-tidy S ms h = rw (undoneAll-back G S ms) (madeAll-tidy S (back ms) h)
+  pub undoneAll-freelyReduced : (S : List (List A)) (ms : List Move) → FreelyReduced G S → FreelyReduced G (undoneAll G S ms)
+  undoneAll-freelyReduced S ms h = rw (undoneAll-back G S ms) (madeAll-freelyReduced S (back ms) h)
 
   -- one word: the undoing form takes the factor away again
-  formed-undone : (form : Form) (wi wk : List A) → reduce G (formed G (undoing form) wi (reduce G (formed G form wi wk))) ≡ reduce G wk
-  formed-undone form₁ wi wk = reduce-undo-left G L wi wk
-  formed-undone form₂ wi wk = reduce-redo-left G L wi wk
-  formed-undone form₃ wi wk = reduce-undo-right G L wk wi
-  formed-undone form₄ wi wk = reduce-redo-right G L wk wi
+  formed-undone : (form : Form) (wi wk : List A) → freelyReduce G (formed G (undoing form) wi (freelyReduce G (formed G form wi wk))) ≡ freelyReduce G wk
+  formed-undone form₁ wi wk = freelyReduce-undo-left G L wi wk
+  formed-undone form₂ wi wk = freelyReduce-redo-left G L wi wk
+  formed-undone form₃ wi wk = freelyReduce-undo-right G L wk wi
+  formed-undone form₄ wi wk = freelyReduce-redo-right G L wk wi
 
   -- a move made and undone gives the system back
-  pub made-undone : (S : List (List A)) (m : Move) → Tidy G S → Apart m → undone G (made G S m) m ≡ S
+  pub made-undone : (S : List (List A)) (m : Move) → FreelyReduced G S → Apart m → undone G (made G S m) m ≡ S
   made-undone S m h a = elim (decLt (m .changed) (length S)) [
     | no n ↦ rw (made-outside G S m (omega arith)) (made-outside G S (undo m) (omega arith))
     | yes q ↦ rw (
@@ -119,30 +111,30 @@ module _ {A : Type 0} (G : Letters A) (L : LetterLaws G) where
       made-changed G S m q,
       made-others G S m (m .other) (λ e. a (sym e)),
       formed-undone,
-      reduce-same G L (word G S (m .changed)) (h (m .changed)),
+      freelyReduce-same G L (word G S (m .changed)) (h (m .changed)),
     )
         (set-getD S (m .changed) [])
   ]
 
   -- and so does a move undone and made
-  pub undone-made : (S : List (List A)) (m : Move) → Tidy G S → Apart m → made G (undone G S m) m ≡ S
+  pub undone-made : (S : List (List A)) (m : Move) → FreelyReduced G S → Apart m → made G (undone G S m) m ≡ S
   undone-made S m h a = rw (undoing-twice (m .form)) at (made-undone S (undo m) h a)
 
   -- a row of moves made, then undone from the last to the first
-  pub madeAll-undone : (S : List (List A)) (ms : List Move) → Tidy G S → AllApart ms → undoneAll G (madeAll G S ms) ms ≡ S
+  pub madeAll-undone : (S : List (List A)) (ms : List Move) → FreelyReduced G S → AllApart ms → undoneAll G (madeAll G S ms) ms ≡ S
   madeAll-undone S [] h a = refl
-  madeAll-undone S (m ∷ ms) h a = rw (madeAll-undone (made G S m) ms (made-tidy S m h) a.1) (made-undone S m h a.0)
+  madeAll-undone S (m ∷ ms) h a = rw (madeAll-undone (made G S m) ms (made-freelyReduced S m h) a.1) (made-undone S m h a.0)
 
   -- undone only back to move i, the row leaves what its first i moves had made
-  pub madeAll-undone-to : (S : List (List A)) (ms : List Move) (i : ℕ) → Tidy G S → AllApart ms
+  pub madeAll-undone-to : (S : List (List A)) (ms : List Move) (i : ℕ) → FreelyReduced G S → AllApart ms
       → undoneAll G (madeAll G S ms) (drop i ms) ≡ madeAll G S (take i ms)
   madeAll-undone-to S ms i h a =
       let halfway : List (List A) = madeAll G S (take i ms) in
       let e : madeAll G S ms ≡ madeAll G halfway (drop i ms) =
       ap (madeAll G S) (sym (take-append-drop i ms)) ∙ madeAll-append G S (take i ms) (drop i ms) in
-      rw e (madeAll-undone halfway (drop i ms) (madeAll-tidy S (take i ms) h) (apart-drop i ms a))
+      rw e (madeAll-undone halfway (drop i ms) (madeAll-freelyReduced S (take i ms) h) (apart-drop i ms a))
 
   -- a row of moves undone, then made again
-  pub undoneAll-made : (S : List (List A)) (ms : List Move) → Tidy G S → AllApart ms → madeAll G (undoneAll G S ms) ms ≡ S
+  pub undoneAll-made : (S : List (List A)) (ms : List Move) → FreelyReduced G S → AllApart ms → madeAll G (undoneAll G S ms) ms ≡ S
   undoneAll-made S [] h a = refl
-  undoneAll-made S (m ∷ ms) h a = rw (undone-made (undoneAll G S ms) m (undoneAll-tidy S ms h) a.0) (undoneAll-made S ms h a.1)
+  undoneAll-made S (m ∷ ms) h a = rw (undone-made (undoneAll G S ms) m (undoneAll-freelyReduced S ms h) a.0) (undoneAll-made S ms h a.1)

@@ -6,12 +6,12 @@ use mathlib.Core.Option.{Option, none, some}
 use mathlib.Core.List.{List, [], _∷_, _++_}
 use lib.ListN.{length}
 use lib.Dec.{ltb, eqb}
-use Rattle.words.specs.Letters.{Letters}
-use Rattle.words.specs.Words.{reduce, inverse, common}
+use Rattle.words.specs.Alphabet.{Alphabet}
+use Rattle.words.specs.Words.{freelyReduce, inverse, commonPrefix}
 use Rattle.systems.specs.Products.{Factor, factors, value}
 use Rattle.systems.specs.Rules.{first, anyBelow, begins, ends, firstHalf, secondHalf}
 
-module _ {A : Type 0} (G : Letters A) where
+module _ {A : Type 0} (G : Alphabet A) where
   -- the two elements of a slot: its word, then the inverse
   abbrev pub eitherOf : (Factor → Bool) → ℕ → Option Factor
   eitherOf test k =
@@ -21,7 +21,7 @@ module _ {A : Type 0} (G : Letters A) where
 
   -- an element of which more than half begins the word
   abbrev pub bigEnd : List (List A) → List A → Factor → Bool
-  bigEnd S w x = ltb (length (value G S x)) (2 * common G (value G S x) w)
+  bigEnd S w x = ltb (length (value G S x)) (2 * commonPrefix G (value G S x) w)
 
   -- some other element, not x, ends with the second half of x
   abbrev pub endsOther : List (List A) → Factor → ℕ → Bool
@@ -51,6 +51,6 @@ module _ {A : Type 0} (G : Letters A) where
         | a ∷ v ↦
             elim (leading S (a ∷ v)) [
               | none ↦ none
-              | some x ↦ elim (factored S n (reduce G (inverse G (value G S x) ++ (a ∷ v)))) [ none ↦ none | some p ↦ some (x ∷ p) ]
+              | some x ↦ elim (factored S n (freelyReduce G (inverse G (value G S x) ++ (a ∷ v)))) [ none ↦ none | some p ↦ some (x ∷ p) ]
             ]
       ]

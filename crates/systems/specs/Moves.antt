@@ -2,8 +2,8 @@
 use Prim.Native.Nat.{ℕ}
 use mathlib.Core.List.{List, [], _∷_, _++_}
 use lib.ListN.{set}
-use Rattle.words.specs.Letters.{Letters}
-use Rattle.words.specs.Words.{reduce, inverse, cancelled}
+use Rattle.words.specs.Alphabet.{Alphabet}
+use Rattle.words.specs.Words.{freelyReduce, inverse, cancellation}
 use Rattle.systems.specs.Products.{word}
 
 -- the four forms of a move
@@ -27,7 +27,7 @@ undoing form₄ = form₃
 abbrev pub undo : Move → Move
 undo m = record { changed = m .changed; form = undoing (m .form); other = m .other }
 
-module _ {A : Type 0} (G : Letters A) where
+module _ {A : Type 0} (G : Alphabet A) where
   -- "1. w(i) w(k)  2. inverse of w(i), then w(k)  3. w(k) w(i)  4. w(k), then inverse of w(i)"
   abbrev pub formed : Form → List A → List A → List A
   formed form₁ wi wk = wi ++ wk
@@ -37,14 +37,14 @@ module _ {A : Type 0} (G : Letters A) where
 
   -- how many letters cancel in a form, between its two freely reduced words; the search counts it, and no rule speaks of it
   abbrev pub seam : Form → List A → List A → ℕ
-  seam form₁ wi wk = cancelled G wi wk
-  seam form₂ wi wk = cancelled G (inverse G wi) wk
-  seam form₃ wi wk = cancelled G wk wi
-  seam form₄ wi wk = cancelled G wk (inverse G wi)
+  seam form₁ wi wk = cancellation G wi wk
+  seam form₂ wi wk = cancellation G (inverse G wi) wk
+  seam form₃ wi wk = cancellation G wk wi
+  seam form₄ wi wk = cancellation G wk (inverse G wi)
 
   -- the word that a move puts into its slot
   abbrev pub movedWord : List (List A) → Move → List A
-  movedWord S m = reduce G (formed (m .form) (word G S (m .other)) (word G S (m .changed)))
+  movedWord S m = freelyReduce G (formed (m .form) (word G S (m .other)) (word G S (m .changed)))
 
   -- the system after a move: "replace w(k)" by the freely reduced result
   abbrev pub made : List (List A) → Move → List (List A)

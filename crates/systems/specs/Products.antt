@@ -6,8 +6,8 @@ use mathlib.Core.Bool.{Bool, cond, not, _&&_, Bool·beq}
 use mathlib.Core.List.{List, [], _∷_, _++_}
 use lib.ListN.{length, getD}
 use lib.Dec.{eqb}
-use Rattle.words.specs.Letters.{Letters}
-use Rattle.words.specs.Words.{reduce, Irreducible, inverse}
+use Rattle.words.specs.Alphabet.{Alphabet}
+use Rattle.words.specs.Words.{freelyReduce, Irreducible, inverse}
 
 -- one factor: a slot's word, or its inverse; "slot letter for the slot's word, capital for its inverse"
 pub record Factor : Type 0 where
@@ -15,21 +15,21 @@ pub record Factor : Type 0 where
   pub inverted : Bool
 
 -- a factor beside its own inverse cancels, so a product is itself a word over these letters
-abbrev pub factors : Letters Factor
+abbrev pub factors : Alphabet Factor
 factors =
     record {
       flip = λ f. record { slot = f .slot; inverted = not (f .inverted) };
       same = λ f g. eqb (f .slot) (g .slot) && Bool·beq (f .inverted) (g .inverted);
     }
 
-module _ {A : Type 0} (G : Letters A) where
+module _ {A : Type 0} (G : Alphabet A) where
   -- the word in a slot
   abbrev pub word : List (List A) → ℕ → List A
   word S k = getD S k []
 
   -- every word is freely reduced
-  abbrev pub Tidy : List (List A) → Type 0
-  Tidy S = (k : ℕ) → Irreducible G (word S k)
+  abbrev pub FreelyReduced : List (List A) → Type 0
+  FreelyReduced S = (k : ℕ) → Irreducible G (word S k)
 
   -- the word that a factor stands for
   abbrev pub value : List (List A) → Factor → List A
@@ -42,17 +42,21 @@ module _ {A : Type 0} (G : Letters A) where
 
   -- "and freely reduce the whole row, however long"
   abbrev pub multiplied : List (List A) → List Factor → List A
-  multiplied S p = reduce G (spelled S p)
+  multiplied S p = freelyReduce G (spelled S p)
 
   -- "any finite row, long or empty, of letters of slots that the system has and of their capitals; neighbours may cancel"
   abbrev pub Over : List (List A) → List Factor → Type 0
   Over S [] = Unit
   Over S (f ∷ p) = (f .slot < length S) × Over S p
 
+  -- a slot that is not blank
+  abbrev pub NotBlank : List (List A) → ℕ → Type 0
+  NotBlank S k = word S k ≡ [] → ⊥
+
   -- "it names no blank slot"
   abbrev pub OverWords : List (List A) → List Factor → Type 0
   OverWords S [] = Unit
-  OverWords S (f ∷ p) = (word S (f .slot) ≡ [] → ⊥) × OverWords S p
+  OverWords S (f ∷ p) = NotBlank S (f .slot) × OverWords S p
 
   -- "It is freely reduced over the words that aren't empty when it names no blank slot and no letter stands beside its own capital."
   abbrev pub FreelyReducedOver : List (List A) → List Factor → Type 0
@@ -61,7 +65,7 @@ module _ {A : Type 0} (G : Letters A) where
   -- w lies in the subgroup: "some product of words of S and their inverses, of whatever finite length, the empty product included,
   -- freely reduces to what w freely reduces to"
   abbrev pub Generated : List (List A) → List A → Type 0
-  Generated S w = (p : List Factor) × Over S p × (multiplied S p ≡ reduce G w)
+  Generated S w = (p : List Factor) × Over S p × (multiplied S p ≡ freelyReduce G w)
 
   -- the same words are generated
   abbrev pub Equivalent : List (List A) → List (List A) → Type 0
@@ -69,14 +73,14 @@ module _ {A : Type 0} (G : Letters A) where
 
   -- the words of a system that are not blank are independent; theorems alone speak of it
   abbrev pub Independent : List (List A) → Type 0
-  Independent S = (p : List Factor) → OverWords S p → multiplied S p ≡ [] → reduce factors p ≡ []
+  Independent S = (p : List Factor) → OverWords S p → multiplied S p ≡ [] → freelyReduce factors p ≡ []
 
   -- it names no slot whose word cancels to nothing
   abbrev pub OverUncancelled : List (List A) → List Factor → Type 0
   OverUncancelled S [] = Unit
-  OverUncancelled S (f ∷ p) = (reduce G (word S (f .slot)) ≡ [] → ⊥) × OverUncancelled S p
+  OverUncancelled S (f ∷ p) = (freelyReduce G (word S (f .slot)) ≡ [] → ⊥) × OverUncancelled S p
 
   -- the given words that don't cancel to nothing are independent: "every product of those words and inverses that comes to the empty word
   -- cancels already as a product over slots"
   abbrev pub IndependentWords : List (List A) → Type 0
-  IndependentWords S = (p : List Factor) → OverUncancelled S p → multiplied S p ≡ [] → reduce factors p ≡ []
+  IndependentWords S = (p : List Factor) → OverUncancelled S p → multiplied S p ≡ [] → freelyReduce factors p ≡ []

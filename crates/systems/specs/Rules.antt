@@ -6,8 +6,8 @@ use mathlib.Core.Option.{Option, none, some}
 use mathlib.Core.List.{List, [], _∷_}
 use lib.ListN.{length, take, drop}
 use lib.Dec.{ltb, eqb}
-use Rattle.words.specs.Letters.{Letters}
-use Rattle.words.specs.Words.{reduce, inverse, common}
+use Rattle.words.specs.Alphabet.{Alphabet}
+use Rattle.words.specs.Words.{freelyReduce, inverse, commonPrefix}
 use Rattle.systems.specs.Products.{word}
 use Rattle.systems.specs.Moves.{Form, form₁, form₂, form₃, form₄, Move, formed, made, madeAll}
 
@@ -28,11 +28,11 @@ formAt (suc zero) = form₂
 formAt (suc (suc zero)) = form₃
 formAt (suc (suc (suc n))) = form₄
 
-module _ {A : Type 0} (G : Letters A) where
+module _ {A : Type 0} (G : Alphabet A) where
   -- "if the freely reduced result is strictly shorter than w(k)"
   abbrev pub tryForm : List (List A) → ℕ → ℕ → Form → Option Move
   tryForm S k i form =
-      cond (ltb (length (reduce G (formed G form (word G S i) (word G S k)))) (length (word G S k)))
+      cond (ltb (length (freelyReduce G (formed G form (word G S i) (word G S k)))) (length (word G S k)))
       (some (record { changed = k; form = form; other = i }))
       none
 
@@ -56,7 +56,7 @@ module _ {A : Type 0} (G : Letters A) where
 
   -- w begins with u
   abbrev pub begins : List A → List A → Bool
-  begins u w = eqb (common G u w) (length u)
+  begins u w = eqb (commonPrefix G u w) (length u)
 
   -- w ends with u
   abbrev pub ends : List A → List A → Bool

@@ -5,15 +5,15 @@ use mathlib.Core.Path.{_≡_, refl, sym, ap, _∙_}
 use mathlib.Core.List.{List, [], _∷_, _++_, map, reverse-cons, append-assoc, append-nil}
 use native.Mathlib.Omega.{arith}
 use lib.ListN.{length, getD, take, drop, take-append-drop, length-drop, length-reverse, length-map}
-use lib.Seq.{take-suc, take-at, drop-at, getD-at}
-use Rattle.words.specs.Letters.{Letters}
-use Rattle.words.specs.Words.{push, reduce, Irreducible, inverse}
-use Rattle.words.proofs.Letters.{LetterLaws, same?}
-use Rattle.words.proofs.Reduction.{push-cancel, push-keep, irreducible-next, irreducible-tail, irreducible-cons, irreducible-join, reduce-irreducible, reduce-same, reduce-left, reduce-right, reduce-pair-flip, reduce-empty-left, reduce-empty-right}
+use lib.Seq.{take-suc, take-at, getD-at}
+use Rattle.words.specs.Alphabet.{Alphabet}
+use Rattle.words.specs.Words.{push, freelyReduce, Irreducible, inverse}
+use Rattle.words.proofs.Alphabet.{AlphabetLaws, same?}
+use Rattle.words.proofs.FreeReduction.{push-cancel, push-keep, irreducible-next, irreducible-tail, irreducible-cons, irreducible-join, freelyReduce-irreducible, freelyReduce-same, freelyReduce-left, freelyReduce-right, freelyReduce-pair-flip, freelyReduce-empty-left, freelyReduce-empty-right}
 
-module _ {A : Type 0} (G : Letters A) (L : LetterLaws G) where
-  open Letters G using (flip)
-  open LetterLaws L using (twice)
+module _ {A : Type 0} (G : Alphabet A) (L : AlphabetLaws G) where
+  open Alphabet G using (flip)
+  open AlphabetLaws L using (twice)
 
   pub inverse-nil : inverse G [] ≡ []
   unfolding inverse
@@ -42,9 +42,6 @@ module _ {A : Type 0} (G : Letters A) (L : LetterLaws G) where
   unfolding inverse
   inverse-length w = length-reverse (map flip w) ∙ length-map w flip
 
-  pub inverse-inj : (u v : List A) → inverse G u ≡ inverse G v → u ≡ v
-  inverse-inj u v e = sym (inverse-twice u) ∙ ap (inverse G) e ∙ inverse-twice v
-
   pub inverse-turn : (u v : List A) → u ≡ inverse G v → v ≡ inverse G u
   inverse-turn u v e = rw e (sym (inverse-twice v))
 
@@ -57,67 +54,53 @@ module _ {A : Type 0} (G : Letters A) (L : LetterLaws G) where
       tt
       (λ e. irreducible-next G L x y w h (sym (e ∙ twice y))))
 
-  inverse-push : (x : A) (w : List A) → Irreducible G w → reduce G (inverse G (x ∷ w)) ≡ inverse G (push G x w)
+  inverse-push : (x : A) (w : List A) → Irreducible G w → freelyReduce G (inverse G (x ∷ w)) ≡ inverse G (push G x w)
   inverse-push x [] h = rw inverse-singleton
   inverse-push x (y ∷ w) h = elim (same? G L y (flip x)) [
-    | yes e ↦ rw (push-cancel G L x y w e, inverse-cons, inverse-cons, append-assoc, e, reduce-pair-flip G L, append-nil)
-        (reduce-same G L (inverse G w) (inverse-irreducible w (irreducible-tail G L y w h)))
+    | yes e ↦ rw (push-cancel G L x y w e, inverse-cons, inverse-cons, append-assoc, e, freelyReduce-pair-flip G L, append-nil)
+        (freelyReduce-same G L (inverse G w) (inverse-irreducible w (irreducible-tail G L y w h)))
     | no n ↦ rw (push-keep G L x y w n)
-        (reduce-same G L (inverse G (x ∷ y ∷ w)) (inverse-irreducible (x ∷ y ∷ w) (irreducible-cons G L x y w n h)))
+        (freelyReduce-same G L (inverse G (x ∷ y ∷ w)) (inverse-irreducible (x ∷ y ∷ w) (irreducible-cons G L x y w n h)))
   ]
 
-  pub reduce-inverse : (w : List A) → reduce G (inverse G w) ≡ inverse G (reduce G w)
-  reduce-inverse [] = rw inverse-nil
-  reduce-inverse (x ∷ w) = rw (inverse-cons, reduce-left G L (inverse G w) (flip x ∷ []), reduce-inverse w, ← inverse-cons)
-      (inverse-push x (reduce G w) (reduce-irreducible G L w))
+  pub freelyReduce-inverse : (w : List A) → freelyReduce G (inverse G w) ≡ inverse G (freelyReduce G w)
+  freelyReduce-inverse [] = rw inverse-nil
+  freelyReduce-inverse (x ∷ w) = rw (inverse-cons, freelyReduce-left G L (inverse G w) (flip x ∷ []), freelyReduce-inverse w, ← inverse-cons)
+      (inverse-push x (freelyReduce G w) (freelyReduce-irreducible G L w))
 
   -- a word and its inverse, one after the other, come to the empty word
-  pub reduce-self-inverse : (w : List A) → reduce G (w ++ inverse G w) ≡ []
-  reduce-self-inverse [] = rw inverse-nil
-  reduce-self-inverse (x ∷ w) = rw (inverse-cons, ← append-assoc w (inverse G w) (flip x ∷ []), reduce-empty-left G L (w ++ inverse G w) (flip x ∷ []) (reduce-self-inverse w))
+  pub freelyReduce-self-inverse : (w : List A) → freelyReduce G (w ++ inverse G w) ≡ []
+  freelyReduce-self-inverse [] = rw inverse-nil
+  freelyReduce-self-inverse (x ∷ w) = rw (inverse-cons, ← append-assoc w (inverse G w) (flip x ∷ []), freelyReduce-empty-left G L (w ++ inverse G w) (flip x ∷ []) (freelyReduce-self-inverse w))
       (push-cancel G L x (flip x) [] refl)
 
-  pub reduce-inverse-self : (w : List A) → reduce G (inverse G w ++ w) ≡ []
-  reduce-inverse-self w = rw inverse-twice at (reduce-self-inverse (inverse G w))
+  pub freelyReduce-inverse-self : (w : List A) → freelyReduce G (inverse G w ++ w) ≡ []
+  freelyReduce-inverse-self w = rw inverse-twice at (freelyReduce-self-inverse (inverse G w))
 
   -- so the inverse takes a factor away again, on either side
-  pub reduce-undo-left : (u v : List A) → reduce G (inverse G u ++ reduce G (u ++ v)) ≡ reduce G v
-  reduce-undo-left u v = rw (← reduce-right G L, ← append-assoc)
-      (reduce-empty-left G L (inverse G u ++ u) v (reduce-inverse-self u))
+  pub freelyReduce-undo-left : (u v : List A) → freelyReduce G (inverse G u ++ freelyReduce G (u ++ v)) ≡ freelyReduce G v
+  freelyReduce-undo-left u v = rw (← freelyReduce-right G L, ← append-assoc)
+      (freelyReduce-empty-left G L (inverse G u ++ u) v (freelyReduce-inverse-self u))
 
-  pub reduce-redo-left : (u v : List A) → reduce G (u ++ reduce G (inverse G u ++ v)) ≡ reduce G v
-  reduce-redo-left u v = rw inverse-twice at (reduce-undo-left (inverse G u) v)
+  pub freelyReduce-redo-left : (u v : List A) → freelyReduce G (u ++ freelyReduce G (inverse G u ++ v)) ≡ freelyReduce G v
+  freelyReduce-redo-left u v = rw inverse-twice at (freelyReduce-undo-left (inverse G u) v)
 
-  pub reduce-undo-right : (u v : List A) → reduce G (reduce G (u ++ v) ++ inverse G v) ≡ reduce G u
-  reduce-undo-right u v = rw (← reduce-left G L, append-assoc)
-      (reduce-empty-right G L u (v ++ inverse G v) (reduce-self-inverse v))
+  pub freelyReduce-undo-right : (u v : List A) → freelyReduce G (freelyReduce G (u ++ v) ++ inverse G v) ≡ freelyReduce G u
+  freelyReduce-undo-right u v = rw (← freelyReduce-left G L, append-assoc)
+      (freelyReduce-empty-right G L u (v ++ inverse G v) (freelyReduce-self-inverse v))
 
-  pub reduce-redo-right : (u v : List A) → reduce G (reduce G (u ++ inverse G v) ++ v) ≡ reduce G u
-  reduce-redo-right u v = rw inverse-twice at (reduce-undo-right u (inverse G v))
+  pub freelyReduce-redo-right : (u v : List A) → freelyReduce G (freelyReduce G (u ++ inverse G v) ++ v) ≡ freelyReduce G u
+  freelyReduce-redo-right u v = rw inverse-twice at (freelyReduce-undo-right u (inverse G v))
 
-  pub reduce-strip-left : (u v w : List A) → reduce G (u ++ v) ≡ reduce G (u ++ w) → reduce G v ≡ reduce G w
-  reduce-strip-left u v w e = rw e at (sym (reduce-undo-left u v)) ∙ reduce-undo-left u w
-
-  pub reduce-strip-right : (u v w : List A) → reduce G (v ++ u) ≡ reduce G (w ++ u) → reduce G v ≡ reduce G w
-  reduce-strip-right u v w e = sym (reduce-undo-right v u) ∙ ap (λ (r : List A). reduce G (r ++ inverse G u)) e ∙ reduce-undo-right w u
-
-  pub inverse-unique : (u v : List A) → reduce G (u ++ v) ≡ [] → reduce G v ≡ reduce G (inverse G u)
-  inverse-unique u v e = rw (e, append-nil) at (sym (reduce-undo-left u v))
+  pub inverse-unique : (u v : List A) → freelyReduce G (u ++ v) ≡ [] → freelyReduce G v ≡ freelyReduce G (inverse G u)
+  inverse-unique u v e = rw (e, append-nil) at (sym (freelyReduce-undo-left u v))
 
   pub inverse-split : (n : ℕ) (w : List A) → inverse G w ≡ inverse G (drop n w) ++ inverse G (take n w)
   inverse-split n w = ap (inverse G) (sym (take-append-drop n w)) ∙ inverse-append (take n w) (drop n w)
 
-  pub inverse-take : (n : ℕ) (w : List A) → inverse G (take n w) ≡ drop (length w - n) (inverse G w)
-  inverse-take n w = rw (inverse-split n w)
-      (sym (drop-at (inverse G (drop n w)) (inverse G (take n w)) (length w - n) (inverse-length (drop n w) ∙ length-drop n w)))
-
   pub inverse-drop : (n : ℕ) (w : List A) → inverse G (drop n w) ≡ take (length w - n) (inverse G w)
   inverse-drop n w = rw (inverse-split n w)
       (sym (take-at (inverse G (drop n w)) (inverse G (take n w)) (length w - n) (inverse-length (drop n w) ∙ length-drop n w)))
-
-  pub take-inverse : (n : ℕ) (w : List A) → take n (inverse G w) ≡ inverse G (drop (length w - n) w)
-  take-inverse n w = inverse-turn (drop (length w - n) w) (take n (inverse G w))
-      (simp (inverse-length, inverse-twice) at (sym (inverse-take n (inverse G w))))
 
   pub drop-inverse : (n : ℕ) (w : List A) → drop n (inverse G w) ≡ inverse G (take (length w - n) w)
   drop-inverse n w = inverse-turn (take (length w - n) w) (drop n (inverse G w))

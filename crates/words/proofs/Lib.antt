@@ -1,5 +1,9 @@
-pub mod Letters
-pub mod Reduction
+pub mod Alphabet
+pub mod FreeReduction
 pub mod Inverse
 pub mod Cancellation
 pub mod Stack
+pub mod Buffers
+pub mod Below
+pub mod Counting
+pub mod Joining

@@ -1,2 +1,4 @@
-pub mod Letters
+pub mod Alphabet
 pub mod Words
+pub mod Buffers
+pub mod Below

@@ -3,10 +3,10 @@ use Prim.Native.Nat.{ℕ, suc}
 use mathlib.Core.Path.{_≡_}
 use mathlib.Core.Bool.{false, cond}
 use mathlib.Core.List.{List, [], _∷_, _++_, reverse, map}
-use Rattle.words.specs.Letters.{Letters}
+use Rattle.words.specs.Alphabet.{Alphabet}
 
-module _ {A : Type 0} (G : Letters A) where
-  open Letters G using (flip, same)
+module _ {A : Type 0} (G : Alphabet A) where
+  open Alphabet G using (flip, same)
 
   -- a letter before a freely reduced word: where the word begins with its inverse, the two are removed
   abbrev pub push : A → List A → List A
@@ -14,9 +14,9 @@ module _ {A : Type 0} (G : Letters A) where
   push x (y ∷ w) = cond (same y (flip x)) w (x ∷ y ∷ w)
 
   -- "Free reduction removes neighbours of the kind aA or Aa until none are left"
-  abbrev pub reduce : List A → List A
-  reduce [] = []
-  reduce (x ∷ w) = push x (reduce w)
+  abbrev pub freelyReduce : List A → List A
+  freelyReduce [] = []
+  freelyReduce (x ∷ w) = push x (freelyReduce w)
 
   -- "none are left": no letter stands beside its inverse
   abbrev pub Irreducible : List A → Type 0
@@ -29,7 +29,7 @@ module _ {A : Type 0} (G : Letters A) where
     removed : {w v : List A} (before : List A) (x : A) (after : List A)
         → w ≡ before ++ (x ∷ flip x ∷ after) → v ≡ before ++ after → Removed w v
 
-  -- any row of removals, one after the other
+  -- any list of removals, one after the other
   pub data Removals : List A → List A → Type 0 where
     none : {w v : List A} → w ≡ v → Removals w v
     more : {w u v : List A} → Removed w u → Removals u v → Removals w v
@@ -38,12 +38,16 @@ module _ {A : Type 0} (G : Letters A) where
   unfoldable pub inverse : List A → List A
   inverse w = reverse (map flip w)
 
-  -- how many letters two words have in common at their beginnings
-  abbrev pub common : List A → List A → ℕ
-  common [] v = 0
-  common (x ∷ u) [] = 0
-  common (x ∷ u) (y ∷ v) = cond (same x y) (suc (common u v)) 0
+  -- the length of the longest common prefix of two words
+  abbrev pub commonPrefix : List A → List A → ℕ
+  commonPrefix [] v = 0
+  commonPrefix (x ∷ u) [] = 0
+  commonPrefix (x ∷ u) (y ∷ v) = cond (same x y) (suc (commonPrefix u v)) 0
+
+  -- and of their longest common suffix
+  abbrev pub commonSuffix : List A → List A → ℕ
+  commonSuffix u v = commonPrefix (inverse u) (inverse v)
 
   -- how many pairs cancel between two freely reduced words, the end of the first against the beginning of the second
-  unfoldable pub cancelled : List A → List A → ℕ
-  cancelled u v = common (inverse u) v
+  unfoldable pub cancellation : List A → List A → ℕ
+  cancellation u v = commonPrefix (inverse u) v

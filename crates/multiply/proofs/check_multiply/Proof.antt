@@ -1,7 +1,8 @@
 -- `multiply::check_multiply` meets its contract.
 use borrow.Author.Needs.{needs}
-use Rattle.multiply.proofs.Calls.{tests-system, tests-target, tests-slots, tests-room}
-use Rattle.multiply.proofs.Targets.{target-told}
+use Rattle.records.proofs.Chains.{then-failed, then-fine}
+use Rattle.records.proofs.Targets.{target-told}
+use Rattle.multiply.specs.Multiply.{multiplyTests}
 use Rattle.multiply.proofs.check_multiply.Statement.{statement}
 use Rattle.multiply.proofs.check_multiply.Tie as tie
 
@@ -15,7 +16,8 @@ enum-told-2 : tie.Need-enum-told-2
 enum-told-2 c = search needs
 
 returns : tie.Need-returns
-returns c = search (tests-system, needs)
+unfolding multiplyTests
+returns c = search (then-failed, then-fine, needs)
 
 check-target-requires : tie.Need-check-target-requires
 check-target-requires c κs = search needs
@@ -27,7 +29,8 @@ enum-told-4 : tie.Need-enum-told-4
 enum-told-4 c = search needs
 
 returns-2 : tie.Need-returns-2
-returns-2 c = search (tests-target, needs)
+unfolding multiplyTests
+returns-2 c = search (then-failed, then-fine, needs)
 
 check-slots-requires : tie.Need-check-slots-requires
 check-slots-requires c κs = search (target-told, needs)
@@ -39,13 +42,15 @@ enum-told-6 : tie.Need-enum-told-6
 enum-told-6 c = search needs
 
 returns-3 : tie.Need-returns-3
-returns-3 c = search (tests-slots, needs)
+unfolding multiplyTests
+returns-3 c = search (then-failed, then-fine, needs)
 
 check-room-requires : tie.Need-check-room-requires
 check-room-requires c κs = search needs
 
 returns-4 : tie.Need-returns-4
-returns-4 c = search (tests-room, needs)
+unfolding multiplyTests
+returns-4 c = search (then-failed, then-fine, needs)
 
 pub check-multiply-spec : {M : Type 1} → statement M
 check-multiply-spec =

@@ -1,7 +1,7 @@
 -- `multiply::multiply` meets its contract.
 use borrow.Author.Needs.{needs}
-use Rattle.records.proofs.Calls.{answered, unchanged, changed}
-use Rattle.multiply.proofs.Calls.{rules-failed, passed-size, passed-product, passed-slots, passed-room, rules-told, passed-short, piece-short, word-written}
+use Rattle.records.proofs.Chains.{answered, changed, unchanged}
+use Rattle.multiply.proofs.Calls.{passed-product, passed-room, passed-short, passed-size, passed-slots, piece-short, rules-failed, rules-told, word-written}
 use Rattle.multiply.proofs.multiply.Statement.{statement}
 use Rattle.multiply.proofs.multiply.Tie as tie
 
@@ -14,8 +14,8 @@ enum-told c = search needs
 enum-told-2 : tie.Need-enum-told-2
 enum-told-2 c = search needs
 
-outcome-requires : tie.Need-outcome-requires
-outcome-requires c κs = search needs
+answer-of-requires : tie.Need-answer-of-requires
+answer-of-requires c κs = search needs
 
 returns : tie.Need-returns
 returns c = search (answered, unchanged, rules-failed, needs)
@@ -35,8 +35,8 @@ enum-told-3 c = search needs
 enum-told-4 : tie.Need-enum-told-4
 enum-told-4 c = search needs
 
-outcome-requires-2 : tie.Need-outcome-requires-2
-outcome-requires-2 c κs = search needs
+answer-of-requires-2 : tie.Need-answer-of-requires-2
+answer-of-requires-2 c κs = search needs
 
 returns-2 : tie.Need-returns-2
 returns-2 c = (search (answered, rules-told, needs), search (unchanged, rules-told, needs))
@@ -62,8 +62,8 @@ part-write-record-end-2 c = search (passed-room, needs)
 write-record-requires : tie.Need-write-record-requires
 write-record-requires c κs = (search (piece-short, needs), search (passed-room, needs))
 
-outcome-requires-3 : tie.Need-outcome-requires-3
-outcome-requires-3 c κs = search needs
+answer-of-requires-3 : tie.Need-answer-of-requires-3
+answer-of-requires-3 c κs = search needs
 
 same-length : tie.Need-same-length
 same-length c = search needs
@@ -78,14 +78,14 @@ multiply-spec =
     check-multiply-requires
     enum-told
     enum-told-2
-    outcome-requires
+    answer-of-requires
     returns
     slice-aggregate-product-word
     product-word-requires
     check-that-requires
     enum-told-3
     enum-told-4
-    outcome-requires-2
+    answer-of-requires-2
     returns-2
     sub-write-record
     part-write-record-start
@@ -94,6 +94,6 @@ multiply-spec =
     part-write-record-start-2
     part-write-record-end-2
     write-record-requires
-    outcome-requires-3
+    answer-of-requires-3
     same-length
     returns-3)

@@ -1,7 +1,7 @@
 -- `multiply::product_word` meets its contract.
 use borrow.Author.Needs.{needs}
-use Rattle.multiply.proofs.Multiplying.{loaded-tidy, loaded-word}
-use Rattle.records.proofs.Calls.{short-zeros}
+use Rattle.slots.proofs.Holding.{held-none}
+use Rattle.multiply.proofs.Multiplying.{loaded-word}
 use Rattle.multiply.proofs.product_word.Statement.{statement}
 use Rattle.multiply.proofs.product_word.Tie as tie
 
@@ -12,7 +12,7 @@ slice-aggregate-load-2 : tie.Need-slice-aggregate-load-2
 slice-aggregate-load-2 c = search needs
 
 load-requires : tie.Need-load-requires
-load-requires c κs = search (short-zeros, needs)
+load-requires c κs = search (held-none, needs)
 
 slice-aggregate-multiply-out : tie.Need-slice-aggregate-multiply-out
 slice-aggregate-multiply-out c = search needs
@@ -21,8 +21,7 @@ slice-aggregate-multiply-out-2 : tie.Need-slice-aggregate-multiply-out-2
 slice-aggregate-multiply-out-2 c = search needs
 
 multiply-out-requires : tie.Need-multiply-out-requires
-multiply-out-requires c κs =
-    (search needs, (search needs, (search needs, (search needs, (search needs, (search (loaded-tidy, needs), search needs))))))
+multiply-out-requires c κs = search needs
 
 same-length : tie.Need-same-length
 same-length c = search needs

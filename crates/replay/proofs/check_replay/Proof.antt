@@ -1,6 +1,7 @@
 -- `replay::check_replay` meets its contract.
 use borrow.Author.Needs.{needs}
-use Rattle.replay.proofs.Calls.{tests-system, tests-log, tests-room}
+use Rattle.records.proofs.Chains.{then-failed, then-fine}
+use Rattle.replay.specs.Replay.{replayTests}
 use Rattle.replay.proofs.check_replay.Statement.{statement}
 use Rattle.replay.proofs.check_replay.Tie as tie
 
@@ -14,7 +15,8 @@ enum-told-2 : tie.Need-enum-told-2
 enum-told-2 c = search needs
 
 returns : tie.Need-returns
-returns c = search (tests-system, needs)
+unfolding replayTests
+returns c = search (then-failed, then-fine, needs)
 
 check-log-requires : tie.Need-check-log-requires
 check-log-requires c κs = search needs
@@ -26,7 +28,8 @@ enum-told-4 : tie.Need-enum-told-4
 enum-told-4 c = search needs
 
 returns-2 : tie.Need-returns-2
-returns-2 c = search (tests-log, needs)
+unfolding replayTests
+returns-2 c = search (then-failed, then-fine, needs)
 
 mul-check-room : tie.Need-mul-check-room
 mul-check-room c = search needs
@@ -35,7 +38,8 @@ check-room-requires : tie.Need-check-room-requires
 check-room-requires c κs = search needs
 
 returns-3 : tie.Need-returns-3
-returns-3 c = search (tests-room, needs)
+unfolding replayTests
+returns-3 c = search (then-failed, then-fine, needs)
 
 pub check-replay-spec : {M : Type 1} → statement M
 check-replay-spec =

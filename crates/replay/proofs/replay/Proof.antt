@@ -1,7 +1,8 @@
 -- `replay::replay` meets its contract.
 use borrow.Author.Needs.{needs}
-use Rattle.records.proofs.Calls.{answered, unchanged, changed, short-zeros}
-use Rattle.replay.proofs.Calls.{passed-size, passed-few, passed-log, passed-room, loaded-tidy, rules-tests, rules-run, run-written}
+use Rattle.records.proofs.Chains.{answered, changed, unchanged}
+use Rattle.slots.proofs.Holding.{held-none}
+use Rattle.replay.proofs.Calls.{passed-log, passed-room, passed-size, rules-run, rules-tests, run-written}
 use Rattle.replay.proofs.replay.Statement.{statement}
 use Rattle.replay.proofs.replay.Tie as tie
 
@@ -14,8 +15,8 @@ enum-told c = search needs
 enum-told-2 : tie.Need-enum-told-2
 enum-told-2 c = search needs
 
-outcome-requires : tie.Need-outcome-requires
-outcome-requires c κs = search needs
+answer-of-requires : tie.Need-answer-of-requires
+answer-of-requires c κs = search needs
 
 returns : tie.Need-returns
 returns c = search (answered, unchanged, rules-tests, needs)
@@ -27,7 +28,7 @@ slice-aggregate-load-2 : tie.Need-slice-aggregate-load-2
 slice-aggregate-load-2 c = search needs
 
 load-requires : tie.Need-load-requires
-load-requires c κs = (search (passed-size, needs), (search needs, (search needs, search (short-zeros, needs))))
+load-requires c κs = search (passed-size, held-none, needs)
 
 slice-aggregate-run : tie.Need-slice-aggregate-run
 slice-aggregate-run c = search needs
@@ -36,8 +37,7 @@ slice-aggregate-run-2 : tie.Need-slice-aggregate-run-2
 slice-aggregate-run-2 c = search needs
 
 run-requires : tie.Need-run-requires
-run-requires c κs =
-    (search (passed-few, needs), (search (passed-log, needs), (search needs, (search needs, (search needs, search (loaded-tidy, needs))))))
+run-requires c κs = search (passed-log, needs)
 
 enum-told-3 : tie.Need-enum-told-3
 enum-told-3 c = search needs
@@ -45,8 +45,8 @@ enum-told-3 c = search needs
 enum-told-4 : tie.Need-enum-told-4
 enum-told-4 c = search needs
 
-outcome-requires-2 : tie.Need-outcome-requires-2
-outcome-requires-2 c κs = search needs
+answer-of-requires-2 : tie.Need-answer-of-requires-2
+answer-of-requires-2 c κs = search needs
 
 returns-2 : tie.Need-returns-2
 returns-2 c = (search (answered, rules-run, needs), search (unchanged, rules-run, needs))
@@ -58,11 +58,10 @@ slice-aggregate-store-2 : tie.Need-slice-aggregate-store-2
 slice-aggregate-store-2 c = search needs
 
 store-requires : tie.Need-store-requires
-store-requires c κs =
-    (search (passed-few, needs), (search needs, (search needs, (search needs, search (passed-room, needs)))))
+store-requires c κs = search (passed-room, needs)
 
-outcome-requires-3 : tie.Need-outcome-requires-3
-outcome-requires-3 c κs = search needs
+answer-of-requires-3 : tie.Need-answer-of-requires-3
+answer-of-requires-3 c κs = search needs
 
 same-length : tie.Need-same-length
 same-length c = search needs
@@ -77,7 +76,7 @@ replay-spec =
     check-replay-requires
     enum-told
     enum-told-2
-    outcome-requires
+    answer-of-requires
     returns
     slice-aggregate-load
     slice-aggregate-load-2
@@ -87,11 +86,11 @@ replay-spec =
     run-requires
     enum-told-3
     enum-told-4
-    outcome-requires-2
+    answer-of-requires-2
     returns-2
     slice-aggregate-store
     slice-aggregate-store-2
     store-requires
-    outcome-requires-3
+    answer-of-requires-3
     same-length
     returns-3)

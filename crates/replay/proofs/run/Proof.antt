@@ -1,6 +1,6 @@
 -- `replay::run` meets its contract.
 use borrow.Author.Needs.{needs}
-use Rattle.replay.proofs.Calls.{ran-backward, ran-forward, left-backward, left-forward}
+use Rattle.replay.proofs.Calls.{left-backward, left-forward, ran-backward, ran-forward}
 use Rattle.replay.proofs.run.Statement.{statement}
 use Rattle.replay.proofs.run.Tie as tie
 

@@ -2,21 +2,20 @@
 -- are those before them.
 use Prim.Native.Nat.{_+_, _-_, _≤_}
 use mathlib.Core.Path.{_≡_}
-use lib.ListN.{length}
 use borrow.Author.Needs.{needs}
-use Rattle.records.specs.Held.{held, Short}
-use Rattle.records.specs.declared.answers.Checked.the-variants.{Fine}
-use Rattle.replay.proofs.Running.{lastMoves, log-move, made-stays, backward-begin, backward-first, backward-fails, backward-rules, backward-undoes, backward-passes, backward-undone}
-use Rattle.replay.specs.Replay.{backwardRules}
+use Rattle.words.specs.Alphabet.{bytes}
 use Rattle.systems.specs.Moves.{undoneAll}
-use Rattle.systems.specs.Products.{Tidy}
-use Rattle.words.specs.Letters.{bytes}
+use Rattle.records.specs.declared.answers.Checked.the-variants.{Fine}
+use Rattle.slots.specs.Held.{Held, held}
+use Rattle.moves.proofs.Logging.{passed-move}
+use Rattle.replay.specs.Replay.{backwardRules}
+use Rattle.replay.proofs.Running.{backward-begin, backward-fails, backward-first, backward-passes, backward-rules, backward-undoes, backward-undone, lastMoves}
 use Rattle.replay.proofs.run_backward.Statement.{statement}
 use Rattle.replay.proofs.run_backward.Tie as tie
 
 abbrev Inv-loop : tie.InvT-loop
 Inv-loop log n letters₀ lengths₀ count done₀ letters lengths done =
-    (done ≤ count) × (length letters ≡ 1024) × (length lengths ≡ 16) × Short lengths × Tidy bytes (held n letters lengths)
+    (done ≤ count) × Held n letters lengths
     × (backwardRules (held n letters₀ lengths₀) (lastMoves done log) (count - done + 1) ≡ Fine)
     × (held n letters lengths ≡ undoneAll bytes (held n letters₀ lengths₀) (lastMoves done log))
 
@@ -25,19 +24,19 @@ abbrev μ-loop : tie.MeasureT-loop
 
 loop-holds : tie.Need-loop-holds Inv-loop μ-loop
 loop-holds c =
-    (search needs, search needs, search needs, search needs, search needs, search (backward-begin, needs), search (backward-first, needs))
+    (search needs, search needs, search (backward-begin, needs), search (backward-first, needs))
 
 from-last-requires : tie.Need-from-last-requires Inv-loop μ-loop
 from-last-requires c κs = search needs
 
 read-move-requires : tie.Need-read-move-requires Inv-loop μ-loop
-read-move-requires c κs = search (log-move, needs)
+read-move-requires c κs = search (passed-move, needs)
 
 undo-requires : tie.Need-undo-requires Inv-loop μ-loop
 undo-requires c κs = search needs
 
 make-move-requires : tie.Need-make-move-requires Inv-loop μ-loop
-make-move-requires c κs = (search needs, (search needs, (search needs, (search needs, search needs))))
+make-move-requires c κs = search needs
 
 add-refuse : tie.Need-add-refuse Inv-loop μ-loop
 add-refuse c = search needs
@@ -62,7 +61,7 @@ loop-less c = search needs
 
 loop-again : tie.Need-loop-again Inv-loop μ-loop
 loop-again c =
-    (search needs, search needs, search needs, search needs, search (made-stays, needs), search (backward-rules, needs), search (backward-undoes, needs))
+    (search needs, search needs, search (backward-rules, needs), search (backward-undoes, needs))
 
 same-length-3 : tie.Need-same-length-3 Inv-loop μ-loop
 same-length-3 c = search needs

@@ -2,21 +2,21 @@
 -- make of the words held now.
 use Prim.Native.Nat.{_+_, _-_, _≤_}
 use mathlib.Core.Path.{_≡_}
-use lib.ListN.{length, drop}
+use lib.ListN.{drop}
 use borrow.Author.Needs.{needs}
-use Rattle.moves.specs.Logs.{movesIn}
-use Rattle.records.specs.Held.{held, Short}
-use Rattle.replay.proofs.Running.{log-move, forward-fails, forward-rules, forward-makes, made-stays, forward-passes, forward-made}
-use Rattle.replay.specs.Replay.{forwardRules}
+use Rattle.words.specs.Alphabet.{bytes}
 use Rattle.systems.specs.Moves.{madeAll}
-use Rattle.systems.specs.Products.{Tidy}
-use Rattle.words.specs.Letters.{bytes}
+use Rattle.slots.specs.Held.{Held, held}
+use Rattle.moves.specs.Logs.{movesIn}
+use Rattle.moves.proofs.Logging.{passed-move}
+use Rattle.replay.specs.Replay.{forwardRules}
+use Rattle.replay.proofs.Running.{forward-fails, forward-made, forward-makes, forward-passes, forward-rules}
 use Rattle.replay.proofs.run_forward.Statement.{statement}
 use Rattle.replay.proofs.run_forward.Tie as tie
 
 abbrev Inv-loop : tie.InvT-loop
 Inv-loop log n letters₀ lengths₀ count j₀ letters lengths j =
-    (j ≤ count) × (length letters ≡ 1024) × (length lengths ≡ 16) × Short lengths × Tidy bytes (held n letters lengths)
+    (j ≤ count) × Held n letters lengths
     × (forwardRules (held n letters₀ lengths₀) (movesIn log) 1 ≡ forwardRules (held n letters lengths) (drop j (movesIn log)) (j + 1))
     × (madeAll bytes (held n letters₀ lengths₀) (movesIn log) ≡ madeAll bytes (held n letters lengths) (drop j (movesIn log)))
 
@@ -27,10 +27,10 @@ loop-holds : tie.Need-loop-holds Inv-loop μ-loop
 loop-holds c = search needs
 
 read-move-requires : tie.Need-read-move-requires Inv-loop μ-loop
-read-move-requires c κs = search (log-move, needs)
+read-move-requires c κs = search (passed-move, needs)
 
 make-move-requires : tie.Need-make-move-requires Inv-loop μ-loop
-make-move-requires c κs = (search needs, (search needs, (search needs, (search needs, search needs))))
+make-move-requires c κs = search needs
 
 add-refuse : tie.Need-add-refuse Inv-loop μ-loop
 add-refuse c = search needs
@@ -55,7 +55,7 @@ loop-less c = search needs
 
 loop-again : tie.Need-loop-again Inv-loop μ-loop
 loop-again c =
-    (search needs, search needs, search needs, search needs, search (made-stays, needs), search (forward-rules, needs), search (forward-makes, needs))
+    (search needs, search needs, search (forward-rules, needs), search (forward-makes, needs))
 
 same-length-3 : tie.Need-same-length-3 Inv-loop μ-loop
 same-length-3 c = search needs

@@ -20,11 +20,12 @@ pub const TELLING_BYTES: [u8; 22] = [
     b'{', 127, 128, 255,
 ];
 
-/// The systems of the worked sheets.
+/// The systems of the worked sheets, and two around a half-end move.
 pub fn sheet_systems() -> Vec<Vec<u8>> {
     let tidy_sheets = TIDY.iter().map(|(_, given, _)| system(&[given]));
     let other_sheets = SHEETS.iter().map(|sheet| system(sheet.given));
-    tidy_sheets.chain(other_sheets).collect()
+    let half_ends = [system(&["ab", "acb"]), system(&["a", "Cab", "bc"])];
+    tidy_sheets.chain(other_sheets).chain(half_ends).collect()
 }
 
 /// A system of 16 records with 63 letters each.

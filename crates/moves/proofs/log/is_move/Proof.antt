@@ -1,7 +1,7 @@
 -- `moves::log::is_move` meets its contract.
 use borrow.Author.Needs.{needs}
 use Rattle.moves.proofs.Logging.{move-no-slot, move-low, move-high, move-no-other, move-no-end, move-same, move-apart}
-use Rattle.records.proofs.Rules.{told-true, told-false}
+use Rattle.records.proofs.Chains.{told-true, told-false}
 use Rattle.moves.proofs.log.is_move.Statement.{statement}
 use Rattle.moves.proofs.log.is_move.Tie as tie
 

@@ -1,6 +1,6 @@
 -- `records::answers::check_that` meets its contract.
 use borrow.Author.Needs.{needs}
-use Rattle.records.proofs.Calls.{must-fail}
+use Rattle.records.proofs.Chains.{must-fail}
 use Rattle.records.proofs.answers.check_that.Statement.{statement}
 use Rattle.records.proofs.answers.check_that.Tie as tie
 

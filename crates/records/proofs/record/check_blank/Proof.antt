@@ -3,7 +3,8 @@ use Prim.Native.Nat.{_≤_, _+_, _-_}
 use mathlib.Core.Path.{_≡_}
 use lib.ListN.{length, drop}
 use borrow.Author.Needs.{needs}
-use Rattle.records.proofs.Rules.{bytes-begin, bytes-fail, bytes-pass, bytes-end, not-told-true, not-told-false}
+use Rattle.records.proofs.Rules.{bytes-begin, bytes-fail, bytes-pass, bytes-end}
+use Rattle.records.proofs.Chains.{not-told-true, not-told-false}
 use Rattle.records.specs.Records.{notLetter}
 use Rattle.records.specs.Refusals.{eachByte}
 use Rattle.records.proofs.record.check_blank.Statement.{statement}

@@ -4,7 +4,8 @@ use mathlib.Core.List.{_++_}
 use mathlib.Core.Path.{_≡_}
 use lib.ListN.{length, drop}
 use borrow.Author.Needs.{needs}
-use Rattle.records.proofs.Rows.{blank-more, blank-all, same-after}
+use Rattle.records.proofs.Filling.{blank-more, blank-all}
+use Rattle.words.proofs.Buffers.{same-after}
 use Rattle.records.specs.Records.{blanks}
 use Rattle.records.proofs.record.fill_stops.Statement.{statement}
 use Rattle.records.proofs.record.fill_stops.Tie as tie

@@ -3,7 +3,8 @@ use Prim.Native.Nat.{ℕ, _≤_, _<_, _-_}
 use mathlib.Core.Path.{_≡_}
 use lib.ListN.{length, getD}
 use borrow.Author.Needs.{needs}
-use Rattle.records.proofs.Rules.{blank-until, stops-more, never}
+use Rattle.records.proofs.Rules.{blank-until, stops-more}
+use Rattle.records.proofs.Chains.{never}
 use Rattle.records.proofs.record.is_blank.Statement.{statement}
 use Rattle.records.proofs.record.is_blank.Tie as tie
 

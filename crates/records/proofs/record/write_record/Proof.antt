@@ -2,7 +2,7 @@
 use native.Mathlib.Omega.{arith}
 use lib.ListN.{length-set}
 use borrow.Author.Needs.{needs}
-use Rattle.records.proofs.Rows.{record-written}
+use Rattle.records.proofs.Filling.{record-written}
 use Rattle.records.proofs.record.write_record.Statement.{statement}
 use Rattle.records.proofs.record.write_record.Tie as tie
 

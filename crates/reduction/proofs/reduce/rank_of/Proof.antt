@@ -1,10 +1,10 @@
 -- `reduction::reduce::rank_of` meets its contract.
-use Prim.Native.Nat.{_≤_, _-_}
+use Prim.Native.Nat.{_-_, _≤_}
 use mathlib.Core.Path.{_≡_}
 use borrow.Author.Needs.{needs}
-use Rattle.records.specs.Held.{held}
-use Rattle.reduction.proofs.Calls.{rank-step, rank-all}
 use Rattle.systems.specs.Rank.{rank}
+use Rattle.slots.specs.Held.{held}
+use Rattle.reduction.proofs.Calls.{rank-all, rank-step}
 use Rattle.reduction.proofs.reduce.rank_of.Statement.{statement}
 use Rattle.reduction.proofs.reduce.rank_of.Tie as tie
 

@@ -1,6 +1,7 @@
 -- `reduction::reduce::reduce_held` meets its contract.
 use borrow.Author.Needs.{needs}
-use Rattle.reduction.proofs.Calls.{held-tidy, held-run, held-moves, held-stopped, held-log, held-given, held-rank}
+use Rattle.records.proofs.Chains.{must-told}
+use Rattle.reduction.proofs.Calls.{held-given, held-log, held-moves, held-rank, held-run, held-stopped}
 use Rattle.reduction.proofs.reduce.reduce_held.Statement.{statement}
 use Rattle.reduction.proofs.reduce.reduce_held.Tie as tie
 
@@ -8,13 +9,16 @@ load-requires : tie.Need-load-requires
 load-requires c κs = search needs
 
 rank-of-requires : tie.Need-rank-of-requires
-rank-of-requires c κs = (search needs, (search needs, (search needs, search needs)))
+rank-of-requires c κs = search needs
 
 run-requires : tie.Need-run-requires
-run-requires c κs = (search needs, (search needs, (search needs, (search needs, search (held-tidy, needs)))))
+run-requires c κs = search needs
 
 rank-of-requires-2 : tie.Need-rank-of-requires-2
-rank-of-requires-2 c κs = (search needs, (search needs, (search needs, search needs)))
+rank-of-requires-2 c κs = search needs
+
+check-that-requires : tie.Need-check-that-requires
+check-that-requires c κs = search needs
 
 same-length : tie.Need-same-length
 same-length c = search needs
@@ -27,7 +31,7 @@ same-length-3 c = search needs
 
 returns : tie.Need-returns
 returns c =
-    (search (held-moves, needs), (search (held-given, needs), (search (held-rank, needs), (search (held-stopped, needs), (search (held-run, needs), (search (held-log, needs), search needs))))))
+    (search (held-moves, needs), (search (held-given, needs), (search (held-rank, needs), (search (must-told, held-stopped, needs), (search (held-run, needs), (search (held-log, needs), search needs))))))
 
 pub reduce-held-spec : {M : Type 1} → statement M
 reduce-held-spec =
@@ -37,6 +41,7 @@ reduce-held-spec =
     rank-of-requires
     run-requires
     rank-of-requires-2
+    check-that-requires
     same-length
     same-length-2
     same-length-3

@@ -1,8 +1,8 @@
 -- `reduction::test::test_records` meets its contract.
 use borrow.Author.Needs.{needs}
-use Rattle.records.proofs.Calls.{short-zeros}
-use Rattle.reduction.proofs.Calls.{held-tidy, system-size-told, system-few-told, test-refused, test-more, test-none}
-use Rattle.reduction.proofs.Marking.{marked-none, marked-own, settled-none}
+use Rattle.slots.proofs.Holding.{held-none}
+use Rattle.marks.proofs.Marking.{marked-none, marked-own, settled-none}
+use Rattle.reduction.proofs.Calls.{system-size-told, test-given, test-refused}
 use Rattle.reduction.proofs.test.test_records.Statement.{statement}
 use Rattle.reduction.proofs.test.test_records.Tie as tie
 
@@ -34,7 +34,7 @@ slice-aggregate-load-2 : tie.Need-slice-aggregate-load-2
 slice-aggregate-load-2 c = search needs
 
 load-requires : tie.Need-load-requires
-load-requires c κs = (search (system-size-told, needs), (search needs, (search needs, search (short-zeros, needs))))
+load-requires c κs = search (system-size-told, held-none, needs)
 
 slice-aggregate-find-move : tie.Need-slice-aggregate-find-move
 slice-aggregate-find-move c = search needs
@@ -47,19 +47,13 @@ slice-aggregate-find-move-3 c = search needs
 
 find-move-requires : tie.Need-find-move-requires
 find-move-requires c κs =
-    ((search (system-few-told, needs), search needs), (search needs, (search needs, (search needs, (search (held-tidy, needs), (search needs, (search (marked-own, marked-none, system-few-told, needs), search (settled-none, needs))))))))
+    (search needs, (search needs, (search needs, (search (marked-own, marked-none, needs), search (settled-none, needs)))))
 
-enum-told-3 : tie.Need-enum-told-3
-enum-told-3 c = search needs
-
-enum-told-4 : tie.Need-enum-told-4
-enum-told-4 c = search needs
+is-nothing-requires : tie.Need-is-nothing-requires
+is-nothing-requires c κs = search needs
 
 returns-2 : tie.Need-returns-2
-returns-2 c = search (test-more, needs)
-
-returns-3 : tie.Need-returns-3
-returns-3 c = search (test-none, needs)
+returns-2 c = search (test-given, needs)
 
 pub test-records-spec : {M : Type 1} → statement M
 test-records-spec =
@@ -79,7 +73,5 @@ test-records-spec =
     slice-aggregate-find-move-2
     slice-aggregate-find-move-3
     find-move-requires
-    enum-told-3
-    enum-told-4
-    returns-2
-    returns-3)
+    is-nothing-requires
+    returns-2)

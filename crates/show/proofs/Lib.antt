@@ -1,0 +1,2 @@
+-- Laws that the proof of show cites.
+pub mod Showing

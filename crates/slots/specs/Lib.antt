@@ -1,0 +1,4 @@
+pub mod Systems
+pub mod Refusals
+pub mod Held
+pub mod Factors

@@ -1,0 +1,66 @@
+// The tests of a system of records, refusals 1 to 5, and of the room for its words, refusal 10.
+ghost use Prim.Native.Nat.{_*_, _≤_};
+ghost use mathlib.Core.Path.{_≡_};
+ghost use lib.ListN.{length};
+ghost use Rattle.records.specs.Refusals.{eachBelow};
+ghost use Rattle.slots.specs.Refusals.{slotRules, systemRoom, systemRules, wordRoom};
+use records::answers::Checked;
+use records::answers::refuse;
+use records::record::RECORD;
+use records::record::check_record;
+
+// Refusals 1 to 5.
+pub fn check_system(system: &[u8]) -> Checked
+    ensures { λ r. ⌜ r ≡ systemRules (now (system .entry)) ⌝ }
+{
+    let n = system.len() / RECORD;
+    if system.len() % RECORD != 0 {
+        return refuse(1, 0);
+    }
+    if n > 16 {
+        return refuse(2, 0);
+    }
+    check_records(system, n)
+}
+
+// Refusals 3 to 5, record by record.
+fn check_records(system: &[u8], n: usize) -> Checked
+    requires { ⌜ n * 64 ≤ length (now system) ⌝ }
+    requires { ⌜ n ≤ 16 ⌝ }
+    ensures { λ r. ⌜ r ≡ eachBelow (slotRules (now (system .entry))) n ⌝ }
+{
+    let mut k = 0;
+    while k < n {
+        let at = k * RECORD;
+        let end = at + RECORD;
+        let checked = check_record(&system[at..end], at);
+        let Checked::Fine = checked else {
+            return checked;
+        };
+        k += 1;
+    }
+    Checked::Fine
+}
+
+// Refusal 10.
+pub fn check_room(output: usize, room: usize) -> Checked
+    ensures { λ r. ⌜ r ≡ wordRoom output room ⌝ }
+{
+    if room < output {
+        refuse(10, 0)
+    } else {
+        Checked::Fine
+    }
+}
+
+// Refusals 1 to 5, then 10: a system, and room for its words.
+pub fn check_system_room(system: &[u8], room: usize) -> Checked
+    ensures { λ r. ⌜ r ≡ systemRoom (now (system .entry)) room ⌝ }
+{
+    let checked = check_system(system);
+    let Checked::Fine = checked else {
+        return checked;
+    };
+    let n = system.len() / RECORD;
+    check_room(n * RECORD, room)
+}

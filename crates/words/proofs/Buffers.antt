@@ -1,0 +1,33 @@
+-- Buffers that a loop reads or writes one byte at a time.
+use Prim.Native.Nat.{_+_, _<_, _≤_, suc, ℕ}
+use mathlib.Core.List.{List, _++_, _∷_, append-assoc}
+use mathlib.Core.Path.{_∙_, _≡_}
+use native.Mathlib.Nat.{le-antisymm}
+use native.Mathlib.Numerals.{add-one}
+use native.Mathlib.Omega.{arith}
+use lib.ListN.{drop, getD, length, length-set, set, take}
+use lib.Seq.{drop-cons, length-take-le, set-at, take-at, take-length, take-suc}
+use Rattle.words.specs.Buffers.{written}
+
+-- what is left of a list from a place within it: the byte there, and the rest
+pub drop-here : (s : List ℕ) (i : ℕ) → i < length s → drop i s ≡ getD s i 0 ∷ drop (i + 1) s
+drop-here s i h = rw (add-one) (drop-cons s i 0 h)
+
+-- a copy of a list to the beginning of a buffer, one byte at a time
+module _ (w d : List ℕ) (i : ℕ) (inside : i < length w) (room : length w ≤ length d) where
+  copy-suc : set (take i w ++ drop i d) i (getD w i 0) ≡ take (suc i) w ++ drop (suc i) d
+  copy-suc =
+      rw (drop-cons d i 0 (omega arith), set-at (take i w) _ _ _ i (length-take-le i w (omega arith)), take-suc w i 0, append-assoc)
+
+  pub copy-more : {out : List ℕ} → out ≡ take i w ++ drop i d → set out i (getD w i 0) ≡ take (i + 1) w ++ drop (i + 1) d
+  copy-more e = rw (e, add-one) copy-suc
+
+pub copy-all : (w d : List ℕ) {out : List ℕ} (i : ℕ) → length w ≤ i → i ≤ length w → out ≡ take i w ++ drop i d → out ≡ w ++ drop (length w) d
+copy-all w d i l h e = rw (e, le-antisymm h l, take-length)
+
+pub same-after : (l d : List ℕ) (i v : ℕ) → length l ≡ length d → length (set l i v) ≡ length d
+same-after l d i v e = length-set l i v ∙ e
+
+-- what was written at the beginning of a lent buffer
+pub written-take : (new buffer : List ℕ) (n : ℕ) → length new ≡ n → take n (written new buffer) ≡ new
+written-take new buffer n e = take-at new (drop (length new) buffer) n e
