@@ -1,42 +1,44 @@
 -- Writing a word as a product over words held in arrays: the leading factor is taken off, its letter is put into a row, and so on until
 -- nothing is left, nothing leads what is left, or 63 factors are taken.
-use Prim.Native.Nat.{ℕ, suc, _+_, _-_, _*_, _≤_, _<_}
+use Prim.Native.Nat.{ℕ, suc, _+_, _-_, _≤_, _<_}
 use mathlib.Core.Path.{_≡_, refl, sym, ap, ap₂, _∙_}
 use mathlib.Core.Logic.{inl, inr}
-use mathlib.Core.Bool.{Bool, true, false}
+use mathlib.Core.Bool.{Bool, true, false, not}
 use mathlib.Core.Option.{Option, none, some, Option·map, map-eq-none-iff, map-eq-some-iff}
 use mathlib.Core.List.{List, [], _∷_, _++_, map, append-assoc, append-nil}
 use native.Mathlib.Omega.{arith}
 use native.Mathlib.Numerals.{add-one}
 use lib.Dec.{eqb}
 use borrow.Author.Tests.{eq-eqb, ne-eqb}
-use lib.ListN.{length, take, drop, getD, set, length-take}
+use lib.ListN.{length, take, drop, set, length-take}
 use lib.Seq.{take-at, take-suc-set, length-take-le}
 use Rattle.words.specs.Alphabet.{bytes}
-use Rattle.words.specs.Words.{freelyReduce, inverse}
+use Rattle.words.specs.Words.{freelyReduce, inverse, signed}
 use Rattle.words.proofs.Alphabet.{byteLaws}
-use Rattle.words.proofs.FreeReduction.{freelyReduce-same, freelyReduce-twice, irreducible-of-same}
-use Rattle.words.proofs.Inverse.{inverse-twice}
+use Rattle.words.proofs.Buffers.{front-part}
+use Rattle.words.proofs.FreeReduction.{freelyReduce-twice, irreducible-of-same}
+use Rattle.words.proofs.Inverse.{signed-inverse}
+use Rattle.words.proofs.Joining.{pushed-twice}
 use Rattle.systems.specs.Products.{Factor, FreelyReduced, value}
 use Rattle.systems.specs.Factoring.{leading, factored}
-use Rattle.systems.proofs.Searching.{bool-cases}
+use Rattle.systems.proofs.Logic.{bool-cases}
 use Rattle.systems.proofs.Leading.{leading-length}
 use Rattle.systems.proofs.Membership.{factored-nil, factored-spent, factored-stuck, factored-next}
 use Rattle.systems.proofs.Factors.{word-nonempty}
 use Rattle.records.specs.Records.{recordOf, wordOf}
 use Rattle.words.specs.Buffers.{written}
-use Rattle.slots.specs.Held.{heldWord, held, Short}
+use Rattle.slots.specs.Held.{heldWord, held}
 use Rattle.slots.proofs.Holding.{held-word}
 use Rattle.slots.proofs.Systems.{record-length}
 use Rattle.factoring.specs.Factors.{targetWord, productFor, isFound, productAfter}
 use Rattle.slots.specs.Factors.{factorByte}
-use Rattle.leading.specs.Leads.{turned, asFactor, leadFactor, LeadBelow}
+use Rattle.leading.specs.Leads.{asFactor, leadFactor, LeadBelow}
 use Rattle.factoring.specs.ProductLetters.{productLetters, lettersIn}
 use Rattle.leading.specs.declared.Factor.{Factor as CodeFactor}
 use Rattle.leading.specs.declared.Lead.{Lead}
 use Rattle.leading.specs.declared.Lead.the-variants.{Factor as LeadFactor, Nothing}
 
--- the letter of an element
+-- the letter of a factor
 module _ (x : CodeFactor) where
   pub byte-capital : x .inverted ≡ true → 65 + x .slot ≡ factorByte (asFactor x)
   byte-capital t = rw t
@@ -44,7 +46,7 @@ module _ (x : CodeFactor) where
   pub byte-small : x .inverted ≡ false → 97 + x .slot ≡ factorByte (asFactor x)
   byte-small t = rw t
 
--- an element that was found is one of the system's
+-- a factor that was found is one of the system's
 module _ (n : ℕ) (lead : Lead) {x : CodeFactor} (below : LeadBelow n lead) (found : lead ≡ LeadFactor x) where
   pub lead-below : x .slot < n
   lead-below = rw found at below
@@ -52,38 +54,22 @@ module _ (n : ℕ) (lead : Lead) {x : CodeFactor} (below : LeadBelow n lead) (fo
   pub lead-slot : n ≤ 16 → x .slot < 16
   lead-slot few = omega (arith, lead-below)
 
--- the first letters of a row, as a part that is handed on
-front-part : (s : List ℕ) (n : ℕ) → take (n - 0) s ≡ take n s
-front-part s n =
-    let same : n - 0 ≡ n = omega arith in
-    ap (λ (k : ℕ). take k s) same
-
+-- the first letters of a list, as a part that is handed on
 pub front-freelyReduced : (s : List ℕ) (n : ℕ) → freelyReduce bytes (take n s) ≡ take n s → freelyReduce bytes (take (n - 0) s) ≡ take (n - 0) s
 front-freelyReduced s n e = rw (front-part s n) e
 
--- a word that is held, as it is handed on
-module _ (letters lengths u : List ℕ) (k : ℕ) (mine : u ≡ heldWord letters lengths k) where
-  pub word-fits : Short lengths → length u ≤ 63
-  word-fits short = rw (mine, length-take (getD lengths k 0) (drop (k * 64) letters)) (omega (arith, short k))
-
-  pub word-freelyReduced : (n : ℕ) → k < n → FreelyReduced bytes (held n letters lengths) → freelyReduce bytes u ≡ u
-  word-freelyReduced n inside freely = freelyReduce-same bytes byteLaws u (rw (mine, ← held-word n k letters lengths inside) (freely k))
-
 -- what is left of a word after a factor
-module _ (b : Bool) (u w t : List ℕ) (r : ℕ) where
-  pub divided-turned : b ≡ true → take r t ≡ freelyReduce bytes (u ++ w) → take r t ≡ freelyReduce bytes (inverse bytes (turned b u) ++ w)
-  divided-turned s e = rw (s, inverse-twice bytes byteLaws u) e
-
-  pub divided-plain : b ≡ false → take r t ≡ freelyReduce bytes (inverse bytes u ++ w) → take r t ≡ freelyReduce bytes (inverse bytes (turned b u) ++ w)
-  divided-plain s e = rw s e
+pub divided : (b : Bool) (u w t t′ : List ℕ) (n r : ℕ) → take n t ≡ freelyReduce bytes (signed bytes (not b) u)
+    → take r t′ ≡ freelyReduce bytes (take n t ++ w) → take r t′ ≡ freelyReduce bytes (inverse bytes (signed bytes b u) ++ w)
+divided b u w t t′ n r e f = rw (signed-inverse bytes byteLaws b u) (pushed-twice t t′ n r (signed bytes (not b) u) w e f)
 
 -- and that is no longer than the word
 module _ (letters lengths word rest u : List ℕ) (n size left : ℕ) (x : CodeFactor) (inside : x .slot < n) (mine : u ≡ heldWord letters lengths (x .slot))
-    (divided : take left rest ≡ freelyReduce bytes (inverse bytes (turned (x .inverted) u) ++ take (size - 0) word)) (within : left ≤ length rest) where
+    (divided : take left rest ≡ freelyReduce bytes (inverse bytes (signed bytes (x .inverted) u) ++ take (size - 0) word)) (within : left ≤ length rest) where
   left-is : take left rest ≡ freelyReduce bytes (inverse bytes (value bytes (held n letters lengths) (asFactor x)) ++ take size word)
   left-is =
       divided
-      ∙ ap₂ (λ (v w : List ℕ). freelyReduce bytes (inverse bytes (turned (x .inverted) v) ++ w)) (mine ∙ sym (held-word n (x .slot) letters lengths inside))
+      ∙ ap₂ (λ (v w : List ℕ). freelyReduce bytes (inverse bytes (signed bytes (x .inverted) v) ++ w)) (mine ∙ sym (held-word n (x .slot) letters lengths inside))
       (front-part word size)
 
   module _ (freely : FreelyReduced bytes (held n letters lengths)) (reduced : freelyReduce bytes (take size word) ≡ take size word)

@@ -6,22 +6,22 @@ ghost use mathlib.Core.Option.{some};
 ghost use mathlib.Core.Path.{_≡_};
 ghost use lib.ListN.{length, take};
 ghost use Rattle.words.specs.Alphabet.{bytes};
-ghost use Rattle.words.specs.Words.{freelyReduce, inverse};
+ghost use Rattle.words.specs.Words.{freelyReduce, inverse, signed};
 ghost use Rattle.systems.specs.Factoring.{leading};
 ghost use Rattle.systems.specs.Products.{value};
 ghost use Rattle.slots.specs.Factors.{factorByte};
 ghost use Rattle.slots.specs.Held.{Held, held};
-ghost use Rattle.leading.specs.Leads.{asFactor, turned};
+ghost use Rattle.leading.specs.Leads.{asFactor};
 ghost use Rattle.factoring.specs.Factors.{isFound, productAfter, productFor, targetWord};
 ghost use Rattle.factoring.specs.ProductLetters.{lettersIn, productLetters};
 use leading::Factor;
 use leading::Lead;
 use leading::leading_factor;
-use moves::make::form_word;
 use records::record::write_record;
 use slots::held::load_word;
 use slots::held::word_at;
 use words::letters::copy;
+use words::product::push_signed;
 
 // The factors taken off a word: how many there are, and whether they are the whole of it.
 struct Factored {
@@ -89,7 +89,7 @@ fn factor(
     }
 }
 
-// The letter of an element in a product: the slot's letter for its word, the capital for the inverse.
+// The letter of a factor in a product: the slot's letter for its word, the capital for the inverse.
 fn factor_byte(x: Factor) -> u8
     requires { ⌜ x .slot < 16 ⌝ }
     ensures { λ r. ⌜ r ≡ factorByte (asFactor x) ⌝ }
@@ -127,10 +127,8 @@ fn divide(inverted: bool, element: &[u8], word: &[u8], out: &mut [u8]) -> usize
     requires { ⌜ freelyReduce bytes (now element) ≡ now element ⌝ }
     requires { ⌜ freelyReduce bytes (now word) ≡ now word ⌝ }
     ensures within { λ r. ⌜ r ≤ length (now (out .exit)) ⌝ }
-    ensures word { λ r. ⌜ take r (now (out .exit)) ≡ freelyReduce bytes (inverse bytes (turned inverted (now (element .entry))) ++ now (word .entry)) ⌝ }
+    ensures word { λ r. ⌜ take r (now (out .exit)) ≡ freelyReduce bytes (inverse bytes (signed bytes inverted (now (element .entry))) ++ now (word .entry)) ⌝ }
 {
-    if inverted {
-        return form_word(0, element, word, out);
-    }
-    form_word(1, element, word, out)
+    let n = push_signed(out, 0, !inverted, element);
+    push_signed(out, n, false, word)
 }

@@ -1,76 +1,44 @@
 -- The search for a half-end move over words held in arrays. The halves of a word are compared by counts: a word begins with the first half
--- of another, or with the inverse of its second half, where the letters that they have in common reach over that half.
+-- of another, or of its inverse, where the letters that they have in common reach over that half.
 use Prim.Native.Nat.{_%_, _*_, _+_, _/_, _<_, _≤_, ℕ}
 use mathlib.Core.Bool.{Bool, _||_, false, not, true}
 use mathlib.Core.List.{List}
-use mathlib.Core.Logic.{_↔_, inl, inr}
+use mathlib.Core.Logic.{inl, inr}
 use mathlib.Core.Option.{none, some}
 use mathlib.Core.Path.{_∙_, _≡_, ap, ap₂, refl, sym}
-use native.Mathlib.Decide.{decLt, ℕ-discrete}
+use native.Mathlib.Decide.{ℕ-discrete}
+use native.Mathlib.Numerals.{add-one}
 use native.Mathlib.Omega.{arith}
 use lib.Dec.{eqb, leb}
 use lib.ListN.{drop, getD, length, length-drop}
 use lib.Seq.{length-take-le}
 use borrow.Author.Tests.{eq-eqb, le-leb, lt-leb, ne-eqb, not-false, not-true}
 use Rattle.words.specs.Alphabet.{bytes}
-use Rattle.words.specs.Words.{cancellation, commonPrefix, commonSuffix, inverse}
+use Rattle.words.specs.Words.{cancellation, commonPrefix, commonSuffix, inverse, signed}
 use Rattle.words.proofs.Alphabet.{byteLaws}
-use Rattle.words.proofs.Cancellation.{cancellation-commonPrefix, commonPrefix-comm}
+use Rattle.words.proofs.Cancellation.{cancellation-commonPrefix}
 use Rattle.systems.specs.Moves.{form₁, form₄}
 use Rattle.systems.specs.Products.{word}
 use Rattle.systems.specs.Rules.{anyBelow, begins, elsewhere, ends, first, firstHalf, halfEnd, qualifies, secondHalf, shortestBelow, tryHalf}
-use Rattle.systems.proofs.HalfEnds.{half-at-beginning, half-at-end, half-neither, half-same, halfEnd-chosen, halfEnd-first, halfEnd-unchosen, qualifies-qualified, shortest-better-one, shortest-keep-one, shortest-skip-one, shortest-some, shortest-start-one}
-use Rattle.systems.proofs.Halves.{begins-back-half, begins-half}
-use Rattle.systems.proofs.Searching.{any-found, any-more-one, bool-cases, first-more-one}
+use Rattle.systems.proofs.HalfEnds.{half-at-beginning, half-at-end, half-neither, half-same, halfEnd-chosen, halfEnd-first, halfEnd-unchosen, shortest-better, shortest-keep, shortest-skip, shortest-some, shortest-start}
+use Rattle.systems.proofs.Qualifying.{qualifies-qualified}
+use Rattle.systems.proofs.Halves.{back-half, begins-signed, ends-signed}
+use Rattle.systems.proofs.Logic.{bool-cases}
+use Rattle.systems.proofs.Searching.{any-found, any-more-one, first-more-one}
 use Rattle.slots.specs.Held.{Short, held, heldWord}
 use Rattle.slots.proofs.Holding.{held-length, held-word}
-use Rattle.half_ends.specs.HalfEnds.{backElsewhere, frontElsewhere, meetsBack, meetsFront}
+use Rattle.half_ends.specs.HalfEnds.{halfElsewhere, meetsHalf}
 
--- a test that holds exactly where one number is at most another
-test-leb : (t : Bool) (a b : ℕ) → (t ≡ true) ↔ (a ≤ b) → t ≡ leb a b
-test-leb true a b e = sym (le-leb a b (e .0 refl))
-test-leb false a b e = elim (decLt b a) [
-  | yes l ↦ sym (lt-leb a b l)
-  | no l ↦ e .1 (omega arith) ∙ sym (le-leb a b (omega arith))
-]
+-- whether a word or its inverse begins with the first half of another, by the two counts
+module _ (b : Bool) (w v : List ℕ) (c : ℕ) (counted : c ≡ commonPrefix bytes (signed bytes b w) v) where
+  pub half-met : length w / 2 ≤ c → true ≡ meetsHalf b w v
+  unfolding meetsHalf
+  half-met h = rw (begins-signed bytes byteLaws b w v, ← counted, le-leb (length w / 2) c h)
 
-module _ (w v : List ℕ) where
-  front-plain : begins bytes (firstHalf bytes w) v ≡ leb (length w / 2) (commonPrefix bytes w v)
-  front-plain = test-leb _ (length w / 2) (commonPrefix bytes w v) (begins-half bytes byteLaws w v)
-
-  front-turned : begins bytes (firstHalf bytes w) (inverse bytes v) ≡ leb (length w / 2) (cancellation bytes v w)
-  front-turned =
-      test-leb _ (length w / 2) (commonPrefix bytes w (inverse bytes v)) (begins-half bytes byteLaws w (inverse bytes v))
-      ∙ ap (leb (length w / 2)) (commonPrefix-comm bytes byteLaws w (inverse bytes v) ∙ sym (cancellation-commonPrefix bytes byteLaws v w))
-
-  back-plain : length w % 2 ≡ 0 → begins bytes (inverse bytes (secondHalf bytes w)) v ≡ leb (length w / 2) (cancellation bytes w v)
-  back-plain even =
-      test-leb _ (length w / 2) (commonPrefix bytes (inverse bytes w) v) (begins-back-half bytes byteLaws w v even)
-      ∙ ap (leb (length w / 2)) (sym (cancellation-commonPrefix bytes byteLaws w v))
-
-  back-turned : length w % 2 ≡ 0
-      → begins bytes (inverse bytes (secondHalf bytes w)) (inverse bytes v) ≡ leb (length w / 2) (commonSuffix bytes w v)
-  back-turned even =
-      test-leb _ (length w / 2) (commonSuffix bytes w v) (begins-back-half bytes byteLaws w (inverse bytes v) even)
-
-  -- the first half, by the two counts
-  pub front-met : (c : ℕ) → c ≡ commonPrefix bytes w v → length w / 2 ≤ c → true ≡ meetsFront w v
-  unfolding meetsFront
-  front-met c e h = rw (front-plain, ← e, le-leb (length w / 2) c h)
-
-  pub front-other : (c d : ℕ) → c ≡ commonPrefix bytes w v → c < length w / 2 → d ≡ cancellation bytes v w → leb (length w / 2) d ≡ meetsFront w v
-  unfolding meetsFront
-  front-other c d e h f = rw (front-plain, front-turned, ← e, ← f, lt-leb (length w / 2) c h)
-
-  -- the second half
-  pub back-met : (c : ℕ) → length w % 2 ≡ 0 → c ≡ cancellation bytes w v → length w / 2 ≤ c → true ≡ meetsBack w v
-  unfolding meetsBack
-  back-met c even e h = rw (back-plain even, ← e, le-leb (length w / 2) c h)
-
-  pub back-other : (c d : ℕ) → length w % 2 ≡ 0 → c ≡ cancellation bytes w v → c < length w / 2
-      → d ≡ commonSuffix bytes w v → leb (length w / 2) d ≡ meetsBack w v
-  unfolding meetsBack
-  back-other c d even e h f = rw (back-plain even, back-turned even, ← e, ← f, lt-leb (length w / 2) c h)
+  pub half-other : (d : ℕ) → c < length w / 2 → d ≡ commonPrefix bytes (signed bytes b w) (inverse bytes v) → leb (length w / 2) d ≡ meetsHalf b w v
+  unfolding meetsHalf
+  half-other d h e =
+      rw (begins-signed bytes byteLaws b w v, begins-signed bytes byteLaws b w (inverse bytes v), ← counted, ← e, lt-leb (length w / 2) c h)
 
 -- the slots below i beside slot h: no word of theirs, nor its inverse, begins with u
 module _ (S : List (List ℕ)) (h : ℕ) (u : List ℕ) (i : ℕ) where
@@ -88,74 +56,43 @@ module _ (S : List (List ℕ)) (h : ℕ) (u : List ℕ) (i : ℕ) where
       → anyBelow (elsewhere bytes S h u) n ≡ true
   other-met n l d e = any-found (elsewhere bytes S h u) i n l (rw (ne-eqb i h d, e))
 
--- what begins another slot's word: the first half of slot h's, or the inverse of its second half
-abbrev frontOf : List (List ℕ) → ℕ → List ℕ
-frontOf S h = firstHalf bytes (word bytes S h)
+-- the loop over the other slots
+module _ (inverted : Bool) (letters lengths : List ℕ) (n h i : ℕ) where
+  abbrev halfOf : List ℕ
+  halfOf = firstHalf bytes (signed bytes inverted (word bytes (held n letters lengths) h))
 
-abbrev backOf : List (List ℕ) → ℕ → List ℕ
-backOf S h = inverse bytes (secondHalf bytes (word bytes S h))
+  pub elsewhere-begin : halfElsewhere inverted 0 (held n letters lengths) h ≡ false
+  unfolding halfElsewhere
+  elsewhere-begin = refl
 
--- the loops over the other slots, for the first half and for the second
-module _ (letters lengths : List ℕ) (n h i : ℕ) where
-  pub fronts-begin : frontElsewhere 0 (held n letters lengths) h ≡ false
-  unfolding frontElsewhere
-  fronts-begin = refl
+  module _ (none-yet : halfElsewhere inverted i (held n letters lengths) h ≡ false) where
+    pub elsewhere-own : i ≡ h → halfElsewhere inverted (i + 1) (held n letters lengths) h ≡ false
+    unfolding halfElsewhere
+    elsewhere-own e = own-passed (held n letters lengths) h halfOf i e none-yet
 
-  pub backs-begin : backElsewhere 0 (held n letters lengths) h ≡ false
-  unfolding backElsewhere
-  backs-begin = refl
+    pub elsewhere-end : i ≤ n → n ≤ i → false ≡ halfElsewhere inverted n (held n letters lengths) h
+    elsewhere-end l m = let z : i ≡ n = omega arith in sym (rw z at none-yet)
 
-  pub fronts-own : i ≡ h → frontElsewhere i (held n letters lengths) h ≡ false → frontElsewhere (i + 1) (held n letters lengths) h ≡ false
-  unfolding frontElsewhere
-  fronts-own e none-yet = own-passed (held n letters lengths) h (frontOf (held n letters lengths) h) i e none-yet
+    module _ (met : Bool) (whole other : List ℕ) (told : met ≡ meetsHalf inverted whole other) (mine : whole ≡ heldWord letters lengths h)
+        (yours : other ≡ heldWord letters lengths i) (h-inside : h < n) (i-inside : i < n) where
+      met-words : met ≡ meetsHalf inverted (word bytes (held n letters lengths) h) (word bytes (held n letters lengths) i)
+      met-words =
+          told ∙ ap₂ (meetsHalf inverted) (mine ∙ sym (held-word n h letters lengths h-inside))
+          (yours ∙ sym (held-word n i letters lengths i-inside))
 
-  pub backs-own : i ≡ h → backElsewhere i (held n letters lengths) h ≡ false → backElsewhere (i + 1) (held n letters lengths) h ≡ false
-  unfolding backElsewhere
-  backs-own e none-yet = own-passed (held n letters lengths) h (backOf (held n letters lengths) h) i e none-yet
+      pub elsewhere-turn : met ≡ false → halfElsewhere inverted (i + 1) (held n letters lengths) h ≡ false
+      unfolding halfElsewhere meetsHalf
+      elsewhere-turn e = other-passed (held n letters lengths) h halfOf i (sym met-words ∙ e) none-yet
 
-  pub fronts-end : i ≤ n → n ≤ i → frontElsewhere i (held n letters lengths) h ≡ false → false ≡ frontElsewhere n (held n letters lengths) h
-  fronts-end l m e = let z : i ≡ n = omega arith in sym (rw z at e)
-
-  pub backs-end : i ≤ n → n ≤ i → backElsewhere i (held n letters lengths) h ≡ false → false ≡ backElsewhere n (held n letters lengths) h
-  backs-end l m e = let z : i ≡ n = omega arith in sym (rw z at e)
-
-  module _ (met : Bool) (whole other : List ℕ) (mine : whole ≡ heldWord letters lengths h) (yours : other ≡ heldWord letters lengths i)
-      (h-inside : h < n) (i-inside : i < n) where
-    met-words : (meets : List ℕ → List ℕ → Bool) → met ≡ meets whole other
-        → met ≡ meets (word bytes (held n letters lengths) h) (word bytes (held n letters lengths) i)
-    met-words meets told =
-        told
-        ∙ ap₂ meets (mine ∙ sym (held-word n h letters lengths h-inside)) (yours ∙ sym (held-word n i letters lengths i-inside))
-
-    pub fronts-turn : met ≡ meetsFront whole other → met ≡ false → frontElsewhere i (held n letters lengths) h ≡ false
-        → frontElsewhere (i + 1) (held n letters lengths) h ≡ false
-    unfolding frontElsewhere meetsFront
-    fronts-turn told e none-yet = other-passed (held n letters lengths) h (frontOf (held n letters lengths) h) i (sym (met-words meetsFront told) ∙ e) none-yet
-
-    pub backs-turn : met ≡ meetsBack whole other → met ≡ false → backElsewhere i (held n letters lengths) h ≡ false
-        → backElsewhere (i + 1) (held n letters lengths) h ≡ false
-    unfolding backElsewhere meetsBack
-    backs-turn told e none-yet = other-passed (held n letters lengths) h (backOf (held n letters lengths) h) i (sym (met-words meetsBack told) ∙ e) none-yet
-
-    pub fronts-met : met ≡ meetsFront whole other → (i ≡ h → ⊥) → met ≡ true → true ≡ frontElsewhere n (held n letters lengths) h
-    unfolding frontElsewhere meetsFront
-    fronts-met told apart e =
-        sym (other-met (held n letters lengths) h (frontOf (held n letters lengths) h) i n i-inside apart (sym (met-words meetsFront told) ∙ e))
-
-    pub backs-met : met ≡ meetsBack whole other → (i ≡ h → ⊥) → met ≡ true → true ≡ backElsewhere n (held n letters lengths) h
-    unfolding backElsewhere meetsBack
-    backs-met told apart e = sym (other-met (held n letters lengths) h (backOf (held n letters lengths) h) i n i-inside apart (sym (met-words meetsBack told) ∙ e))
+      pub elsewhere-met : (i ≡ h → ⊥) → met ≡ true → true ≡ halfElsewhere inverted n (held n letters lengths) h
+      unfolding halfElsewhere meetsHalf
+      elsewhere-met apart e = sym (other-met (held n letters lengths) h halfOf i n i-inside apart (sym met-words ∙ e))
 
 -- a held word has the length that is held for it
 pub held-size : (letters lengths : List ℕ) (k : ℕ) → k < 16 → length letters ≡ 1024 → Short lengths
     → length (heldWord letters lengths k) ≡ getD lengths k 0
 held-size letters lengths k inside wide short =
     length-take-le (getD lengths k 0) (drop (k * 64) letters) (rw (length-drop (k * 64) letters) (omega (arith, short k)))
-
-pub held-even : (letters lengths whole : List ℕ) (n h : ℕ) → whole ≡ heldWord letters lengths h → getD lengths h 0 % 2 ≡ 0 → n ≤ 16 → h < n
-    → length letters ≡ 1024 → Short lengths → length whole % 2 ≡ 0
-held-even letters lengths whole n h mine even few inside wide short =
-    rw (mine, held-size letters lengths h (omega arith) wide short) even
 
 -- whether the word of slot h qualifies, test after test
 module _ (letters lengths : List ℕ) (n h size : ℕ) (sized : size ≡ getD lengths h 0) (few : n ≤ 16) (inside : h < n)
@@ -179,17 +116,22 @@ module _ (letters lengths : List ℕ) (n h size : ℕ) (sized : size ≡ getD le
       even-word : eqb (length (word bytes (held n letters lengths) h) % 2) 0 ≡ true
       even-word = eq-eqb (length (word bytes (held n letters lengths) h) % 2) 0 (rw word-size even)
 
-      pub unqualified-front : (front : Bool) → front ≡ frontElsewhere n (held n letters lengths) h → not front ≡ true
-          → false ≡ qualifies bytes (held n letters lengths) h
-      unfolding frontElsewhere
-      unqualified-front front told e =
-          rw (filled-word, even-word, held-length n letters lengths, sym told ∙ not-true front e)
+      module _ (front : Bool) (told : front ≡ halfElsewhere false n (held n letters lengths) h) where
+        pub unqualified-front : not front ≡ true → false ≡ qualifies bytes (held n letters lengths) h
+        unfolding halfElsewhere
+        unqualified-front e = rw (filled-word, even-word, held-length n letters lengths, sym told ∙ not-true front e)
 
-      pub qualified-back : (front back : Bool) → front ≡ frontElsewhere n (held n letters lengths) h → not front ≡ false
-          → back ≡ backElsewhere n (held n letters lengths) h → back ≡ qualifies bytes (held n letters lengths) h
-      unfolding frontElsewhere backElsewhere
-      qualified-back front back told e met =
-          rw (filled-word, even-word, held-length n letters lengths, sym told ∙ not-false front e) met
+        pub qualified-back : (back : Bool) → not front ≡ false → back ≡ halfElsewhere true n (held n letters lengths) h
+            → back ≡ qualifies bytes (held n letters lengths) h
+        unfolding halfElsewhere
+        qualified-back back e met =
+            rw (
+              filled-word,
+              even-word,
+              held-length n letters lengths,
+              sym told ∙ not-false front e,
+              back-half bytes byteLaws (word bytes (held n letters lengths) h) (rw word-size even),
+            ) met
 
 -- the best word so far among the slots below k: none, or the shortest that qualifies, in the lowest slot
 pub data Best (S : List (List ℕ)) (n k best least : ℕ) : Type 0 where
@@ -201,22 +143,22 @@ best-begin S n = none-yet refl refl refl
 
 module _ (S : List (List ℕ)) (n k best least : ℕ) where
   best-skipped : qualifies bytes S k ≡ false → Best S n k best least → Best S n (k + 1) best least
-  best-skipped e (none-yet p q d) = none-yet p q (shortest-skip-one bytes byteLaws S k e ∙ d)
-  best-skipped e (one-yet p q d) = one-yet p q (shortest-skip-one bytes byteLaws S k e ∙ d)
+  best-skipped e (none-yet p q d) = none-yet p q (rw add-one (shortest-skip bytes byteLaws S k e ∙ d))
+  best-skipped e (one-yet p q d) = one-yet p q (rw add-one (shortest-skip bytes byteLaws S k e ∙ d))
 
   -- a word that is no shorter is not asked whether it qualifies
   best-kept : (size : ℕ) → length (word bytes S k) ≡ size → size ≤ 63 → least ≤ size → Best S n k best least → Best S n (k + 1) best least
   best-kept size sized small long (none-yet p q d) = absurd (omega arith)
   best-kept size sized small long (one-yet p q d) = elim (bool-cases (qualifies bytes S k)) [
-    | inl t ↦ one-yet p q (shortest-keep-one bytes byteLaws S k best t d (omega arith))
-    | inr t ↦ one-yet p q (shortest-skip-one bytes byteLaws S k t ∙ d)
+    | inl t ↦ one-yet p q (rw add-one (shortest-keep bytes byteLaws S k best t d (omega arith)))
+    | inr t ↦ one-yet p q (rw add-one (shortest-skip bytes byteLaws S k t ∙ d))
   ]
 
   best-taken : (size : ℕ) → length (word bytes S k) ≡ size → k < n → size < least → qualifies bytes S k ≡ true → Best S n k best least
       → Best S n (k + 1) k size
-  best-taken size sized inside less t (none-yet p q d) = one-yet inside (sym sized) (shortest-start-one bytes byteLaws S k t d)
+  best-taken size sized inside less t (none-yet p q d) = one-yet inside (sym sized) (rw add-one (shortest-start bytes byteLaws S k t d))
   best-taken size sized inside less t (one-yet p q d) =
-      one-yet inside (sym sized) (shortest-better-one bytes byteLaws S k best t d (omega arith))
+      one-yet inside (sym sized) (rw add-one (shortest-better bytes byteLaws S k best t d (omega arith)))
 
   pub best-chosen : k ≤ n → n ≤ k → Best S n k best least → best < n → shortestBelow bytes S n ≡ some best
   best-chosen l m (none-yet p q d) h = absurd (omega arith)
@@ -289,7 +231,7 @@ module _ (letters lengths : List ℕ) (n h k : ℕ) (kept : Kept letters lengths
     -- whether the changed word ends with the second half, by the count
     back-test : ends bytes (secondHalf bytes (word bytes (held n letters lengths) h)) (word bytes (held n letters lengths) k) ≡ leb (length whole / 2) back
     back-test =
-        back-turned (word bytes (held n letters lengths) h) (word bytes (held n letters lengths) k) chosen-even
+        ends-signed bytes byteLaws false false (word bytes (held n letters lengths) h) (word bytes (held n letters lengths) k) chosen-even
         ∙ rw (counted, whole-word, changed-word) refl
 
     pub kept-at-end : (k ≡ h → ⊥) → length whole / 2 ≤ back
@@ -304,8 +246,11 @@ module _ (letters lengths : List ℕ) (n h k : ℕ) (kept : Kept letters lengths
       front-test : begins bytes (inverse bytes (secondHalf bytes (word bytes (held n letters lengths) h))) (word bytes (held n letters lengths) k)
           ≡ leb (length whole / 2) front
       front-test =
-          back-plain (word bytes (held n letters lengths) h) (word bytes (held n letters lengths) k) chosen-even
-          ∙ rw (met, whole-word, changed-word) refl
+          ap (λ (u : List ℕ). begins bytes u (word bytes (held n letters lengths) k))
+          (back-half bytes byteLaws (word bytes (held n letters lengths) h) chosen-even)
+          ∙ begins-signed bytes byteLaws true (word bytes (held n letters lengths) h) (word bytes (held n letters lengths) k)
+          ∙ rw (met, whole-word, changed-word)
+          (ap (leb _) (sym (cancellation-commonPrefix bytes byteLaws (word bytes (held n letters lengths) h) (word bytes (held n letters lengths) k))))
 
       pub kept-at-beginning : (k ≡ h → ⊥) → length whole / 2 ≤ front
           → some (record { changed = k; form = form₁; other = h }) ≡ halfEnd bytes (held n letters lengths)

@@ -1,87 +1,51 @@
 // The search for a half-end move: it counts the letters that words have in common and builds nothing.
-ghost use Prim.Native.Nat.{_%_, _<_, _≤_};
+ghost use Prim.Native.Nat.{_<_, _≤_};
 ghost use mathlib.Core.Option.{none, some};
 ghost use mathlib.Core.Path.{_≡_};
-ghost use lib.ListN.{getD, length};
 ghost use Rattle.words.specs.Alphabet.{bytes};
 ghost use Rattle.systems.specs.Rules.{halfEnd, qualifies, shortestBelow};
 ghost use Rattle.slots.specs.Held.{Held, held};
 ghost use Rattle.moves.specs.Found.{FoundBelow, foundMove};
-ghost use Rattle.half_ends.specs.HalfEnds.{backElsewhere, frontElsewhere, meetsBack, meetsFront};
+ghost use Rattle.half_ends.specs.HalfEnds.{halfElsewhere, meetsHalf};
 use moves::found::Found;
 use moves::found::Move;
 use records::record::RECORD;
 use slots::held::length_of;
 use slots::held::word_at;
 use words::cancel::cancellation;
-use words::cancel::common_prefix;
+use words::cancel::common_prefix_signed;
 use words::cancel::common_suffix;
 
-// Whether a word or its inverse begins with the first half of another.
-fn meets_front(whole: &[u8], other: &[u8]) -> bool
-    ensures { λ r. ⌜ r ≡ meetsFront (now (whole .entry)) (now (other .entry)) ⌝ }
+// Whether a word or its inverse begins with the first half of another, or of that one's inverse.
+fn meets_half(inverted: bool, whole: &[u8], other: &[u8]) -> bool
+    ensures { λ r. ⌜ r ≡ meetsHalf inverted (now (whole .entry)) (now (other .entry)) ⌝ }
 {
     let half = whole.len() / 2;
-    let plain = common_prefix(whole, other);
+    let plain = common_prefix_signed(inverted, whole, false, other);
     if half <= plain {
         return true;
     }
-    let turned = cancellation(other, whole);
-    half <= turned
+    let reversed = common_prefix_signed(inverted, whole, true, other);
+    half <= reversed
 }
 
-// Whether a word or its inverse begins with the inverse of the second half of another.
-fn meets_back(whole: &[u8], other: &[u8]) -> bool
-    requires { ⌜ length (now whole) % 2 ≡ 0 ⌝ }
-    ensures { λ r. ⌜ r ≡ meetsBack (now (whole .entry)) (now (other .entry)) ⌝ }
-{
-    let half = whole.len() / 2;
-    let plain = cancellation(whole, other);
-    if half <= plain {
-        return true;
-    }
-    let turned = common_suffix(whole, other);
-    half <= turned
-}
-
-// Whether another slot's word or its inverse begins with the first half of slot h's word.
-fn front_elsewhere(letters: &[u8], lengths: &[usize], n: usize, h: usize) -> bool
+// Whether another slot's word or its inverse begins with the first half of slot h's word, or of the inverse of that.
+fn half_elsewhere(inverted: bool, letters: &[u8], lengths: &[usize], n: usize, h: usize) -> bool
     requires { ⌜ h < n ⌝ }
     requires { ⌜ Held n (now letters) (now lengths) ⌝ }
-    ensures { λ r. ⌜ r ≡ frontElsewhere n (held n (now (letters .entry)) (now (lengths .entry))) h ⌝ }
+    ensures { λ r. ⌜ r ≡ halfElsewhere inverted n (held n (now (letters .entry)) (now (lengths .entry))) h ⌝ }
 {
     let whole = word_at(letters, lengths, h);
     let mut i = 0;
     while i < n {
         if i != h {
             let other = word_at(letters, lengths, i);
-            let met = meets_front(whole, other);
+            let met = meets_half(inverted, whole, other);
             if met {
                 return true;
             }
         }
         i += 1;
-    }
-    false
-}
-
-// Whether another slot's word or its inverse begins with the inverse of the second half of slot h's word.
-fn back_elsewhere(letters: &[u8], lengths: &[usize], n: usize, h: usize) -> bool
-    requires { ⌜ (h < n) × (getD (now lengths) h 0 % 2 ≡ 0) ⌝ }
-    requires { ⌜ Held n (now letters) (now lengths) ⌝ }
-    ensures { λ r. ⌜ r ≡ backElsewhere n (held n (now (letters .entry)) (now (lengths .entry))) h ⌝ }
-{
-    let whole = word_at(letters, lengths, h);
-    let mut j = 0;
-    while j < n {
-        if j != h {
-            let other = word_at(letters, lengths, j);
-            let met = meets_back(whole, other);
-            if met {
-                return true;
-            }
-        }
-        j += 1;
     }
     false
 }
@@ -99,11 +63,11 @@ fn does_qualify(letters: &[u8], lengths: &[usize], n: usize, h: usize) -> bool
     if size % 2 != 0 {
         return false;
     }
-    let front = front_elsewhere(letters, lengths, n, h);
+    let front = half_elsewhere(false, letters, lengths, n, h);
     if !front {
         return false;
     }
-    back_elsewhere(letters, lengths, n, h)
+    half_elsewhere(true, letters, lengths, n, h)
 }
 
 // The slot of the shortest word that qualifies, the lowest on a tie, or n where none does.

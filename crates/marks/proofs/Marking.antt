@@ -18,7 +18,8 @@ use Rattle.words.proofs.Alphabet.{byteLaws}
 use Rattle.systems.specs.Products.{word}
 use Rattle.systems.specs.Moves.{Move, formed, made}
 use Rattle.systems.specs.Rules.{first, formAt, tryForm, tryOther, tryChanged, shortening, next}
-use Rattle.systems.proofs.Searching.{unless-some, first-each, first-some}
+use Rattle.systems.proofs.Logic.{unless-some}
+use Rattle.systems.proofs.Searching.{first-each, first-some}
 use Rattle.systems.proofs.Shortening.{try-found, other-same}
 use Rattle.systems.proofs.Undoing.{made-others}
 use Rattle.systems.proofs.Neither.{next-from}

@@ -18,7 +18,7 @@ use Rattle.systems.specs.Rules.{next}
 use Rattle.systems.proofs.Ending.{every-run-ends}
 use Rattle.systems.proofs.ProductLaws.{Named, over-named, overWords-over, word-slot, words-named}
 use Rattle.systems.proofs.Runs.{member, member-freely, member-length, member-multiplied, member-only, no-member}
-use Rattle.systems.proofs.Searching.{option-cases}
+use Rattle.systems.proofs.Logic.{option-cases}
 use Rattle.records.specs.Answers.{onFine}
 use Rattle.records.specs.Records.{recordOf, wordOf}
 use Rattle.records.specs.Refusals.{eachByte, targetRules}

@@ -11,7 +11,7 @@ use lib.Seq.{sets-eq}
 use borrow.Author.Tests.{eq-eqb, eqb-false, le-leb, leb-true, lt-leb, ltb-true, ne-eqb, not-true}
 use Rattle.systems.specs.Moves.{Move}
 use Rattle.systems.specs.Rules.{formAt}
-use Rattle.systems.proofs.Searching.{all-four, and-left, and-right}
+use Rattle.systems.proofs.Logic.{all-four, and-left, and-right}
 use Rattle.records.specs.Refusals.{eachBelow, must, refusal}
 use Rattle.records.specs.declared.answers.Checked.{Checked}
 use Rattle.records.specs.declared.answers.Checked.the-variants.{Fine}

@@ -1,54 +1,50 @@
 -- One move: the word that it puts into its slot, and the words after it.
-use Prim.Native.Nat.{_*_, _+_, _-_, _<_, _≤_, ℕ}
+use Prim.Native.Nat.{_%_, _*_, _+_, _-_, _<_, _≤_, suc, zero, ℕ}
 use mathlib.Core.Bool.{false, true}
 use mathlib.Core.List.{List, [], _++_}
 use mathlib.Core.Path.{_∙_, _≡_, ap, ap₂, refl, sym}
 use native.Mathlib.Omega.{arith}
-use lib.Dec.{leb}
+use lib.Dec.{eqb, leb}
 use lib.ListN.{drop, length, length-set, length-take, set, take}
 use lib.Seq.{length-take-le, take-append-le, take-take}
 use borrow.Author.Tests.{le-leb, lt-leb}
 use borrow.Rule.Slice.PartMut.{putMid, same-len-mid}
 use Rattle.words.specs.Alphabet.{bytes}
 use Rattle.words.specs.Buffers.{written}
-use Rattle.words.specs.Words.{Irreducible, freelyReduce, inverse}
+use Rattle.words.specs.Words.{Irreducible, freelyReduce, signed}
 use Rattle.words.proofs.Alphabet.{byteLaws}
-use Rattle.words.proofs.FreeReduction.{freelyReduce-left, freelyReduce-twice, irreducible-of-same}
+use Rattle.words.proofs.FreeReduction.{irreducible-of-same}
+use Rattle.words.proofs.Joining.{pushed-twice}
 use Rattle.systems.specs.Moves.{formed, made, movedWord}
 use Rattle.systems.specs.Rules.{formAt}
-use Rattle.systems.proofs.Runs.{reduced}
 use Rattle.systems.proofs.Undoing.{set-holds}
 use Rattle.slots.specs.Held.{Held, held, heldWord}
 use Rattle.slots.proofs.Holding.{back-above, back-below, back-part, held-put, held-word, short-put}
 use Rattle.moves.specs.Found.{moveOf}
 use Rattle.moves.specs.declared.found.Move.{Move as CodeMove}
 
--- a buffer that begins with a product begins with a freely reduced word
-pub pushed-freelyReduced : (l t : List ℕ) (n : ℕ) → take n t ≡ freelyReduce bytes l → freelyReduce bytes (take n t) ≡ take n t
-pushed-freelyReduced l t n e = ap (freelyReduce bytes) e ∙ freelyReduce-twice bytes byteLaws l ∙ sym e
+-- the four forms: the other word before the changed one or after it, inverted or not
+module _ (other changed t t′ : List ℕ) (form n r : ℕ) (known : form < 4) where
+  pub form-before : form < 2 → take n t ≡ freelyReduce bytes (signed bytes (eqb (form % 2) 1) other)
+      → take r t′ ≡ freelyReduce bytes (take n t ++ changed) → take r t′ ≡ freelyReduce bytes (formed bytes (formAt form) other changed)
+  form-before h e f = pushed-twice t t′ n r (signed bytes (eqb (form % 2) 1) other) changed e f ∙ ap (freelyReduce bytes) (go form h)
+    where
+      go : (k : ℕ) → k < 2 → signed bytes (eqb (k % 2) 1) other ++ changed ≡ formed bytes (formAt k) other changed
+      go zero h = refl
+      go (suc zero) h = refl
+      go (suc (suc k)) h = absurd (omega arith)
 
--- the four forms, the first factor put into the buffer and then the second
-module _ (other changed t t′ : List ℕ) (form n r : ℕ) where
-  joined : (u v : List ℕ) → take n t ≡ freelyReduce bytes u → take r t′ ≡ freelyReduce bytes (take n t ++ v) → take r t′ ≡ freelyReduce bytes (u ++ v)
-  joined u v e f = f ∙ ap (λ (l : List ℕ). freelyReduce bytes (l ++ v)) e ∙ sym (freelyReduce-left bytes byteLaws u v)
-
-  pub form-first : form ≡ 0 → take n t ≡ freelyReduce bytes other → take r t′ ≡ freelyReduce bytes (take n t ++ changed)
+  pub form-after : 2 ≤ form → take n t ≡ freelyReduce bytes changed
+      → take r t′ ≡ freelyReduce bytes (take n t ++ signed bytes (eqb (form % 2) 1) other)
       → take r t′ ≡ freelyReduce bytes (formed bytes (formAt form) other changed)
-  form-first z e f = rw z (joined other changed e f)
-
-  pub form-second : form ≡ 1 → take n t ≡ freelyReduce bytes (inverse bytes other) → take r t′ ≡ freelyReduce bytes (take n t ++ changed)
-      → take r t′ ≡ freelyReduce bytes (formed bytes (formAt form) other changed)
-  form-second z e f = rw z (joined (inverse bytes other) changed e f)
-
-  pub form-third : form ≡ 2 → take n t ≡ freelyReduce bytes changed → take r t′ ≡ freelyReduce bytes (take n t ++ other)
-      → take r t′ ≡ freelyReduce bytes (formed bytes (formAt form) other changed)
-  form-third z e f = rw z (joined changed other e f)
-
-  pub form-fourth : form < 4 → (form ≡ 0 → ⊥) → (form ≡ 1 → ⊥) → (form ≡ 2 → ⊥) → take n t ≡ freelyReduce bytes changed
-      → take r t′ ≡ freelyReduce bytes (take n t ++ inverse bytes other) → take r t′ ≡ freelyReduce bytes (formed bytes (formAt form) other changed)
-  form-fourth h a b c e f =
-      let z : form ≡ 3 = omega arith in
-      rw z (joined changed (inverse bytes other) e f)
+  form-after h e f = pushed-twice t t′ n r changed (signed bytes (eqb (form % 2) 1) other) e f ∙ ap (freelyReduce bytes) (go form known h)
+    where
+      go : (k : ℕ) → k < 4 → 2 ≤ k → changed ++ signed bytes (eqb (k % 2) 1) other ≡ formed bytes (formAt k) other changed
+      go zero l h = absurd (omega arith)
+      go (suc zero) l h = absurd (omega arith)
+      go (suc (suc zero)) l h = refl
+      go (suc (suc (suc zero))) l h = refl
+      go (suc (suc (suc (suc k)))) l h = absurd (omega arith)
 
 -- the word that a move puts into its slot
 pub word-moved : (letters lengths t u v : List ℕ) (n : ℕ) (m : CodeMove) (r : ℕ) → m .changed < n → m .other < n
@@ -102,6 +98,3 @@ module _ (letters lengths y w : List ℕ) (n k size : ℕ) (here : Held n letter
 pub move-made : (S S′ : List (List ℕ)) (t : List ℕ) (size : ℕ) (m : CodeMove) → S′ ≡ set S (m .changed) (take size t)
     → take size t ≡ movedWord bytes S (moveOf m) → S′ ≡ made bytes S (moveOf m)
 move-made S S′ t size m put told = put ∙ ap (set S (m .changed)) told
-
-pub front-short : (t : List ℕ) (size : ℕ) → size ≤ 63 → length (take (size - 0) t) ≤ 63
-front-short t size h = rw (length-take (size - 0) t) (omega arith)

@@ -13,11 +13,10 @@ ghost use Rattle.moves.specs.Found.{moveOf};
 use crate::found::Move;
 use records::record::RECORD;
 use slots::held::word_at;
-use words::product::push_inverse;
-use words::product::push_word;
+use words::product::push_signed;
 
 // The freely reduced product of one of the four forms, at the beginning of a buffer, and its length.
-pub fn form_word(form: usize, other: &[u8], changed: &[u8], out: &mut [u8]) -> usize
+fn form_word(form: usize, other: &[u8], changed: &[u8], out: &mut [u8]) -> usize
     requires { ⌜ form < 4 ⌝ }
     requires { ⌜ (length (now other) ≤ 63) × (length (now changed) ≤ 63) × (128 ≤ length (now out)) ⌝ }
     requires { ⌜ freelyReduce bytes (now other) ≡ now other ⌝ }
@@ -25,20 +24,13 @@ pub fn form_word(form: usize, other: &[u8], changed: &[u8], out: &mut [u8]) -> u
     ensures within { λ r. ⌜ r ≤ length (now (out .exit)) ⌝ }
     ensures word { λ r. ⌜ take r (now (out .exit)) ≡ freelyReduce bytes (formed bytes (formAt form) (now (other .entry)) (now (changed .entry))) ⌝ }
 {
-    if form == 0 {
-        let n = push_word(out, 0, other);
-        return push_word(out, n, changed);
+    let inverted = form % 2 == 1;
+    if form < 2 {
+        let n = push_signed(out, 0, inverted, other);
+        return push_signed(out, n, false, changed);
     }
-    if form == 1 {
-        let n = push_inverse(out, 0, other);
-        return push_word(out, n, changed);
-    }
-    if form == 2 {
-        let n = push_word(out, 0, changed);
-        return push_word(out, n, other);
-    }
-    let n = push_word(out, 0, changed);
-    push_inverse(out, n, other)
+    let n = push_signed(out, 0, false, changed);
+    push_signed(out, n, inverted, other)
 }
 
 // The word that a move puts into its slot, at the beginning of a buffer, and its length.

@@ -19,7 +19,7 @@ use Rattle.records.proofs.Targets.{target-sized}
 use Rattle.slots.specs.Refusals.{systemRules, wordRoom}
 use Rattle.slots.specs.Systems.{slots}
 use Rattle.slots.proofs.Systems.{record-length, room-enough, system-size}
-use Rattle.moves.proofs.Making.{front-short}
+use Rattle.words.proofs.Buffers.{front-short}
 use Rattle.multiply.specs.Multiply.{multiplyRules, multiplyTests, productWord}
 use Rattle.multiply.specs.Targets.{slotRule}
 
@@ -74,4 +74,4 @@ pub passed-short : (size : ℕ) {y : Checked} → y ≡ must (leb size 63) 12 0 
 passed-short size e h = leb-true size 63 (must-fine (leb size 63) 12 0 (sym e ∙ h))
 
 pub piece-short : (size : ℕ) (list : List ℕ) {y : Checked} → y ≡ must (leb size 63) 12 0 → y ≡ Fine → length (take (size - 0) list) ≤ 63
-piece-short size list e h = front-short list size (passed-short size e h)
+piece-short size list e h = front-short list size 63 (passed-short size e h)

@@ -6,11 +6,11 @@ use mathlib.Core.Path.{_∙_, _≡_, ap, refl, sym}
 use native.Mathlib.Nat.{le-antisymm}
 use native.Mathlib.Numerals.{add-one}
 use native.Mathlib.Omega.{arith}
+use lib.Dec.{ltb}
 use lib.ListN.{getD, length, take}
 use lib.Seq.{take-suc}
-use borrow.Author.Tests.{le-ltb, lt-ltb}
 use Rattle.words.specs.Alphabet.{bytes}
-use Rattle.words.specs.Words.{freelyReduce, inverse}
+use Rattle.words.specs.Words.{freelyReduce, signed}
 use Rattle.words.proofs.Alphabet.{byteLaws}
 use Rattle.words.proofs.Below.{map-last}
 use Rattle.words.proofs.FreeReduction.{freelyReduce-left, freelyReduce-twice}
@@ -31,19 +31,9 @@ module _ (b n k : ℕ) (letters lengths u : List ℕ) (named : k ≡ factorOf b 
   factor-word = mine ∙ sym (held-word n k letters lengths (omega arith)) ∙ ap (word bytes (held n letters lengths)) named
 
   -- a capital stands for the inverse
-  pub pushed-capital : {x : List ℕ} (v : List ℕ) → b < 97 → x ≡ freelyReduce bytes (v ++ inverse bytes u)
+  pub factor-pushed : {x : List ℕ} (v : List ℕ) → x ≡ freelyReduce bytes (v ++ signed bytes (ltb b 97) u)
       → x ≡ freelyReduce bytes (v ++ value bytes (held n letters lengths) (factorOf b))
-  pushed-capital v low told =
-      let same : value bytes (held n letters lengths) (factorOf b) ≡ inverse bytes (word bytes (held n letters lengths) (factorOf b .slot)) =
-      rw (lt-ltb b 97 low) in
-      told ∙ ap (λ (w : List ℕ). freelyReduce bytes (v ++ w)) (ap (inverse bytes) factor-word ∙ sym same)
-
-  pub pushed-small : {x : List ℕ} (v : List ℕ) → 97 ≤ b → x ≡ freelyReduce bytes (v ++ u)
-      → x ≡ freelyReduce bytes (v ++ value bytes (held n letters lengths) (factorOf b))
-  pushed-small v high told =
-      let same : value bytes (held n letters lengths) (factorOf b) ≡ word bytes (held n letters lengths) (factorOf b .slot) =
-      rw (le-ltb b 97 high) in
-      told ∙ ap (λ (w : List ℕ). freelyReduce bytes (v ++ w)) (factor-word ∙ sym same)
+  factor-pushed v told = told ∙ ap (λ (w : List ℕ). freelyReduce bytes (v ++ signed bytes (ltb b 97) w)) factor-word
 
   pub factor-reduced : Held n letters lengths → freelyReduce bytes u ≡ u
   factor-reduced here = held-reduced letters lengths u n k here (omega arith) mine

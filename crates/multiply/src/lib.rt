@@ -27,8 +27,7 @@ use slots::checks::check_room;
 use slots::checks::check_system;
 use slots::held::load;
 use slots::held::word_at;
-use words::product::push_inverse;
-use words::product::push_word;
+use words::product::push_signed;
 
 pub mod target;
 
@@ -126,8 +125,5 @@ fn push_factor(
 {
     let k = slot_of(b);
     let word = word_at(letters, lengths, k);
-    if b < 97 {
-        return push_inverse(list, size, word);
-    }
-    push_word(list, size, word)
+    push_signed(list, size, b < 97, word)
 }

@@ -18,8 +18,8 @@ use Rattle.systems.specs.Products.{FreelyReduced, word}
 use Rattle.systems.specs.Rules.{halfEnd, movesWithin, next, runWithin, shortening}
 use Rattle.systems.proofs.Neither.{next-halfEnd, next-shortening, next-valid}
 use Rattle.systems.proofs.Runs.{ended-moves, turn-length, turn-moves, turn-run}
-use Rattle.slots.specs.Held.{Held, Short, held}
-use Rattle.slots.proofs.Holding.{held-length, held-word}
+use Rattle.slots.specs.Held.{Held, held}
+use Rattle.slots.proofs.Holding.{held-length, held-short, held-word}
 use Rattle.moves.specs.Found.{FoundBelow, foundMove, moveOf}
 use Rattle.moves.specs.Logs.{logOf, logRecord, moveSize}
 use Rattle.moves.specs.declared.found.Found.{Found}
@@ -46,17 +46,16 @@ module _ (n : ℕ) (S : List (List ℕ)) (r : Found) (told : FoundNext n S r) wh
   found-move e = rw e at told
 
 -- a move of the rules fits its slot
-module _ (n : ℕ) (letters lengths : List ℕ) (short : Short lengths) (freely : FreelyReduced bytes (held n letters lengths)) where
-  held-within : (k : ℕ) → k < n → length (word bytes (held n letters lengths) k) ≤ 63
-  held-within k h =
-      rw (held-word n k letters lengths h, length-take (getD lengths k 0) (drop (k * 64) letters)) (omega (arith, short k))
-
-  pub next-fits : (m : CodeMove) → FoundNext n (held n letters lengths) (FoundMove m)
-      → leb (length (movedWord bytes (held n letters lengths) (moveOf m))) 63 ≡ true
-  next-fits m told =
-      let bound : length (movedWord bytes (held n letters lengths) (moveOf m)) ≤ 63 =
-      omega (arith, next-valid bytes byteLaws (held n letters lengths) freely (moveOf m) (sym (told .found)) .no-longer, held-within (m .changed) (told .below .0)) in
-      le-leb _ _ bound
+next-fits : (n : ℕ) (letters lengths : List ℕ) (m : CodeMove) → Held n letters lengths → FoundNext n (held n letters lengths) (FoundMove m)
+    → leb (length (movedWord bytes (held n letters lengths) (moveOf m))) 63 ≡ true
+next-fits n letters lengths m here told =
+    let bound : length (movedWord bytes (held n letters lengths) (moveOf m)) ≤ 63 =
+    omega (
+      arith,
+      next-valid bytes byteLaws (held n letters lengths) (here .freely) (moveOf m) (sym (told .found)) .no-longer,
+      held-short letters lengths _ (m .changed) (here .short) (held-word n (m .changed) letters lengths (told .below .0)),
+    ) in
+    le-leb _ _ bound
 
 -- the words and the marks after the next move
 module _ (n : ℕ) (letters lengths : List ℕ) (T : List (List ℕ)) {r : Bool} (m : CodeMove)
@@ -64,7 +63,7 @@ module _ (n : ℕ) (letters lengths : List ℕ) (T : List (List ℕ)) {r : Bool}
     (fits : r ≡ leb (length (movedWord bytes (held n letters lengths) (moveOf m))) 63)
     (done : r ≡ true → T ≡ made bytes (held n letters lengths) (moveOf m)) where
   pub advanced : T ≡ made bytes (held n letters lengths) (moveOf m)
-  advanced = done (fits ∙ next-fits n letters lengths (here .short) (here .freely) m told)
+  advanced = done (fits ∙ next-fits n letters lengths m here told)
 
   pub advanced-marked : (marks marks′ : List ℕ) → Marked n (held n letters lengths) marks → Forgotten (m .changed) marks marks′ → Marked n T marks′
   advanced-marked marks marks′ marked gone =

@@ -14,7 +14,7 @@ use Rattle.words.proofs.Alphabet.{AlphabetLaws}
 use Rattle.words.proofs.Inverse.{inverse-twice, inverse-length, inverse-irreducible, inverse-nil}
 use Rattle.systems.specs.Products.{Factor, factors, word, value, NotBlank}
 use Rattle.systems.specs.Reduced.{size}
-use Rattle.systems.proofs.Searching.{and-left, and-right}
+use Rattle.systems.proofs.Logic.{and-left, and-right}
 
 -- a word is empty or not
 pub empty? : {A : Type 0} (w : List A) → Dec (w ≡ [])

@@ -1,20 +1,22 @@
 -- Halves of words: "a word of even length is E1 E2, two halves". A word begins with the first half of another, or with the inverse of its
 -- second half, where the two have so many letters in common.
 use Prim.Native.Nat.{ℕ, _-_, _/_, _%_, _≤_}
-use mathlib.Core.Path.{_≡_, sym, ap, _∙_}
+use mathlib.Core.Path.{_≡_, sym, ap, ap₂, _∙_}
 use mathlib.Core.Logic.{_↔_}
-use mathlib.Core.Bool.{true}
+use mathlib.Core.Bool.{Bool, true, not}
 use mathlib.Core.List.{List}
 use native.Mathlib.Omega.{arith}
+use lib.Dec.{leb}
 use lib.ListN.{length, take}
 use lib.Seq.{length-take-le}
 use borrow.Author.Tests.{eqb-true, eq-eqb}
 use Rattle.words.specs.Alphabet.{Alphabet}
-use Rattle.words.specs.Words.{inverse, commonPrefix}
+use Rattle.words.specs.Words.{inverse, signed, commonPrefix}
 use Rattle.words.proofs.Alphabet.{AlphabetLaws}
-use Rattle.words.proofs.Inverse.{inverse-length, inverse-drop}
+use Rattle.words.proofs.Inverse.{inverse-length, inverse-drop, signed-inverse, signed-length}
 use Rattle.words.proofs.Cancellation.{commonPrefix-agree, commonPrefix-most, commonPrefix-begins, begins-commonPrefix, commonPrefix-le-left}
-use Rattle.systems.specs.Rules.{begins, firstHalf, secondHalf}
+use Rattle.systems.specs.Rules.{begins, ends, firstHalf, secondHalf}
+use Rattle.systems.proofs.Logic.{test-leb}
 
 module _ {A : Type 0} (G : Alphabet A) (L : AlphabetLaws G) where
   -- a word begins with the first m letters of another
@@ -30,7 +32,7 @@ module _ {A : Type 0} (G : Alphabet A) (L : AlphabetLaws G) where
       eq-eqb _ _ (begins-commonPrefix G L (take m w) v (rw (length-take-le m w h) (sym (commonPrefix-agree G L m w v c))))
 
   -- the second half read backward is the first half of the inverse
-  back-half : (w : List A) → length w % 2 ≡ 0 → inverse G (secondHalf G w) ≡ firstHalf G (inverse G w)
+  pub back-half : (w : List A) → length w % 2 ≡ 0 → inverse G (secondHalf G w) ≡ firstHalf G (inverse G w)
   back-half w e =
       let n : length w - length w / 2 ≡ length w / 2 = omega arith in
       rw (inverse-length G L) (inverse-drop G L (length w / 2) w ∙ ap (λ (m : ℕ). take m (inverse G w)) n)
@@ -43,3 +45,15 @@ module _ {A : Type 0} (G : Alphabet A) (L : AlphabetLaws G) where
   pub begins-back-half : (w v : List A) → length w % 2 ≡ 0
       → (begins G (inverse G (secondHalf G w)) v ≡ true) ↔ (length w / 2 ≤ commonPrefix G (inverse G w) v)
   begins-back-half w v e = rw (back-half w e, ← inverse-length G L w) (begins-half (inverse G w) v)
+
+  -- both by a count, for a word or its inverse
+  pub begins-signed : (b : Bool) (w v : List A) → begins G (firstHalf G (signed G b w)) v ≡ leb (length w / 2) (commonPrefix G (signed G b w) v)
+  begins-signed b w v =
+      test-leb _ (length (signed G b w) / 2) (commonPrefix G (signed G b w) v) (begins-half (signed G b w) v)
+      ∙ ap (λ (n : ℕ). leb (n / 2) (commonPrefix G (signed G b w) v)) (signed-length G L b w)
+
+  pub ends-signed : (b c : Bool) (w v : List A) → length w % 2 ≡ 0
+      → ends G (secondHalf G (signed G b w)) (signed G c v) ≡ leb (length w / 2) (commonPrefix G (signed G (not b) w) (signed G (not c) v))
+  ends-signed b c w v even =
+      ap₂ (begins G) (back-half (signed G b w) (rw (signed-length G L b w) even) ∙ ap (firstHalf G) (signed-inverse G L b w)) (signed-inverse G L c v)
+      ∙ begins-signed (not b) w (signed G (not c) v)

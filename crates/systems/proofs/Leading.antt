@@ -21,7 +21,8 @@ use Rattle.systems.specs.Products.{Factor, factors, value, multiplied, F
 use Rattle.systems.specs.Reduced.{cancellationOf, size, Reduced}
 use Rattle.systems.specs.Rules.{first, begins, ends, firstHalf, secondHalf}
 use Rattle.systems.specs.Factoring.{eitherOf, bigEnd, endsOther, halfStart, leading}
-use Rattle.systems.proofs.Searching.{option-cases, and-left, and-right, all-four, four-all, or-either, nonzero, given-some, given-none, else-some, else-none, first-each, first-some, any-found, any-where}
+use Rattle.systems.proofs.Logic.{option-cases, and-left, and-right, all-four, four-all, or-either, nonzero, given-some, given-none, else-some, else-none}
+use Rattle.systems.proofs.Searching.{first-each, first-some, any-found, any-where}
 use Rattle.systems.proofs.Factors.{factorLaws, value-flip, value-length, value-irreducible, notBlank-size, size-notBlank}
 use Rattle.systems.proofs.ProductLaws.{word-slot}
 use Rattle.systems.proofs.ProductLemma.{not-turn, cancellation-half, product-cancellation, product-rest}

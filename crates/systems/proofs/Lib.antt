@@ -1,3 +1,4 @@
+pub mod Logic
 pub mod Searching
 pub mod Factors
 pub mod ProductLaws
@@ -6,8 +7,11 @@ pub mod Equivalence
 pub mod Independence
 pub mod Shortening
 pub mod Halves
+pub mod Qualifying
 pub mod HalfEnds
+pub mod HalfTaken
 pub mod Neither
+pub mod Totals
 pub mod Ending
 pub mod ProductLemma
 pub mod Unique

@@ -16,7 +16,7 @@ use Rattle.words.proofs.Inverse.{freelyReduce-undo-left, freelyReduce-redo-left
 use Rattle.systems.specs.Products.{Factor, value, spelled, multiplied, Over, FreelyReducedOver, Generated, FreelyReduced}
 use Rattle.systems.specs.Reduced.{Reduced}
 use Rattle.systems.specs.Factoring.{leading, factored}
-use Rattle.systems.proofs.Searching.{option-cases}
+use Rattle.systems.proofs.Logic.{option-cases}
 use Rattle.systems.proofs.ProductLaws.{multiplied-cons, freely-reduced, freely-reduced-tail}
 use Rattle.systems.proofs.ProductLemma.{product-empty, product-length}
 use Rattle.systems.proofs.Unique.{reduced-unique}

@@ -12,11 +12,11 @@ use Rattle.words.specs.Alphabet.{Alphabet}
 use Rattle.words.proofs.Alphabet.{AlphabetLaws}
 use Rattle.systems.specs.Products.{word, FreelyReduced}
 use Rattle.systems.specs.Moves.{Move, movedWord, made, madeAll}
-use Rattle.systems.specs.Reduced.{Reduced}
+use Rattle.systems.specs.Reduced.{AtMostHalf, Reduced}
 use Rattle.systems.specs.Rules.{shortening, halfEnd, next, movesWithin, runWithin}
-use Rattle.systems.proofs.Searching.{option-cases, some-not-none}
+use Rattle.systems.proofs.Logic.{option-cases, some-not-none}
 use Rattle.systems.proofs.Undoing.{set-holds, made-freelyReduced, madeAll-length, madeAll-append, madeAll-freelyReduced}
-use Rattle.systems.proofs.Shortening.{Allowed, AtMostHalf, shortening-none, shortening-allowed, shortening-shorter}
+use Rattle.systems.proofs.Shortening.{Allowed, shortening-none, shortening-allowed, shortening-shorter}
 use Rattle.systems.proofs.HalfEnds.{halfEnd-none, halfEnd-allowed, halfEnd-no-longer, halfEnd-same-length}
 
 module _ {A : Type 0} (G : Alphabet A) where

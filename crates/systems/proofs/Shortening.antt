@@ -16,11 +16,12 @@ use Rattle.words.specs.Words.{freelyReduce, Irreducible, inverse, cancellation}
 use Rattle.words.proofs.Alphabet.{AlphabetLaws}
 use Rattle.words.proofs.Inverse.{inverse-length, inverse-twice, inverse-irreducible}
 use Rattle.words.proofs.Cancellation.{length-cancellation, cancellation-inverses, cancellation-le-left, cancellation-le-right}
-use Rattle.systems.specs.Products.{Factor, factors, word, value, FreelyReduced, NotBlank}
+use Rattle.systems.specs.Products.{Factor, factors, word, value, FreelyReduced}
 use Rattle.systems.specs.Moves.{Form, form₁, form₂, form₃, form₄, Move, formed, movedWord, seam}
-use Rattle.systems.specs.Reduced.{cancellationOf, size}
+use Rattle.systems.specs.Reduced.{AtMostHalf, cancellationOf, size}
 use Rattle.systems.specs.Rules.{first, formAt, tryForm, tryOther, tryChanged, shortening}
-use Rattle.systems.proofs.Searching.{option-cases, given-some, given-none, unless-some, first-each, first-some, first-found}
+use Rattle.systems.proofs.Logic.{option-cases, given-some, given-none, unless-some}
+use Rattle.systems.proofs.Searching.{first-each, first-some, first-found}
 use Rattle.systems.proofs.Factors.{word-nonempty, value-flip, value-length}
 use Rattle.systems.proofs.ProductLaws.{word-slot}
 
@@ -65,12 +66,6 @@ formPlace-few form₃ = omega arith
 formPlace-few form₄ = omega arith
 
 module _ {A : Type 0} (G : Alphabet A) where
-  -- "for two elements of its words and inverses that stand in different slots, no product of them cancels more than half of either":
-  -- the first condition of a reduced system
-  abbrev pub AtMostHalf : List (List A) → Type 0
-  AtMostHalf S = (x y : Factor) → NotBlank G S (x .slot) → NotBlank G S (y .slot) → (x .slot ≡ y .slot → ⊥)
-      → (2 * cancellationOf G S x y ≤ size G S x) × (2 * cancellationOf G S x y ≤ size G S y)
-
   -- a move between two slots of the system: "Only slots that are not blank take part."
   pub record Allowed (S : List (List A)) (m : Move) : Type 0 where
     pub distinct : m .changed ≡ m .other → ⊥

@@ -2,12 +2,12 @@
 use Prim.Native.Nat.{ℕ, _<_}
 use mathlib.Core.Path.{_≡_}
 use mathlib.Core.Logic.{_↔_}
-use mathlib.Core.Bool.{Bool, cond, not, _&&_, Bool·beq}
+use mathlib.Core.Bool.{Bool, not, _&&_, Bool·beq}
 use mathlib.Core.List.{List, [], _∷_, _++_}
 use lib.ListN.{length, getD}
 use lib.Dec.{eqb}
 use Rattle.words.specs.Alphabet.{Alphabet}
-use Rattle.words.specs.Words.{freelyReduce, Irreducible, inverse}
+use Rattle.words.specs.Words.{freelyReduce, Irreducible, signed}
 
 -- one factor: a slot's word, or its inverse; "slot letter for the slot's word, capital for its inverse"
 pub record Factor : Type 0 where
@@ -33,7 +33,7 @@ module _ {A : Type 0} (G : Alphabet A) where
 
   -- the word that a factor stands for
   abbrev pub value : List (List A) → Factor → List A
-  value S f = cond (f .inverted) (inverse G (word S (f .slot))) (word S (f .slot))
+  value S f = signed G (f .inverted) (word S (f .slot))
 
   -- "put each letter's word and each capital's inverse word in its place, keep the order"
   abbrev pub spelled : List (List A) → List Factor → List A

@@ -1,17 +1,26 @@
 -- Buffers that a loop reads or writes one byte at a time.
-use Prim.Native.Nat.{_+_, _<_, _≤_, suc, ℕ}
+use Prim.Native.Nat.{_+_, _-_, _<_, _≤_, suc, ℕ}
 use mathlib.Core.List.{List, _++_, _∷_, append-assoc}
-use mathlib.Core.Path.{_∙_, _≡_}
+use mathlib.Core.Path.{_∙_, _≡_, ap}
 use native.Mathlib.Nat.{le-antisymm}
 use native.Mathlib.Numerals.{add-one}
 use native.Mathlib.Omega.{arith}
-use lib.ListN.{drop, getD, length, length-set, set, take}
+use lib.ListN.{drop, getD, length, length-set, length-take, set, take}
 use lib.Seq.{drop-cons, length-take-le, set-at, take-at, take-length, take-suc}
 use Rattle.words.specs.Buffers.{written}
 
 -- what is left of a list from a place within it: the byte there, and the rest
 pub drop-here : (s : List ℕ) (i : ℕ) → i < length s → drop i s ≡ getD s i 0 ∷ drop (i + 1) s
 drop-here s i h = rw (add-one) (drop-cons s i 0 h)
+
+-- the first n letters, as a part that is handed on
+pub front-part : (s : List ℕ) (n : ℕ) → take (n - 0) s ≡ take n s
+front-part s n =
+    let same : n - 0 ≡ n = omega arith in
+    ap (λ (k : ℕ). take k s) same
+
+pub front-short : (s : List ℕ) (n most : ℕ) → n ≤ most → length (take (n - 0) s) ≤ most
+front-short s n most h = rw (length-take (n - 0) s) (omega arith)
 
 -- a copy of a list to the beginning of a buffer, one byte at a time
 module _ (w d : List ℕ) (i : ℕ) (inside : i < length w) (room : length w ≤ length d) where

@@ -1,13 +1,14 @@
 -- Counting what cancels: a loop compares one pair of letters after the other and stops at the first that does not cancel.
 use Prim.Native.Nat.{_+_, _-_, _<_, _≤_, min, ℕ}
+use mathlib.Core.Bool.{Bool, false, true}
 use mathlib.Core.List.{List}
 use mathlib.Core.Path.{_∙_, _≡_, sym}
 use native.Mathlib.Omega.{arith}
 use lib.ListN.{getD, length}
 use Rattle.words.specs.Alphabet.{bytes, flipByte}
-use Rattle.words.specs.Words.{cancellation, commonPrefix, commonSuffix, inverse}
+use Rattle.words.specs.Words.{cancellation, commonPrefix, commonSuffix, inverse, signed}
 use Rattle.words.proofs.Alphabet.{byteLaws}
-use Rattle.words.proofs.Cancellation.{cancellation-le-left, cancellation-le-right, cancellation-more, cancellation-stop, commonPrefix-le-left, commonPrefix-le-right, commonPrefix-more, commonPrefix-stop, commonSuffix-more, commonSuffix-stop}
+use Rattle.words.proofs.Cancellation.{cancellation-commonPrefix, cancellation-le-left, cancellation-le-right, cancellation-more, cancellation-stop, commonPrefix-comm, commonPrefix-le-left, commonPrefix-le-right, commonPrefix-more, commonPrefix-stop, commonSuffix-more, commonSuffix-stop}
 use Rattle.words.proofs.Inverse.{inverse-length}
 
 -- the beginnings of two words
@@ -52,3 +53,17 @@ module _ (u v : List ℕ) (i most j k : ℕ) (here : i ≤ commonSuffix bytes u 
         inverse-length bytes byteLaws u,
         inverse-length bytes byteLaws v,
       )
+
+-- the beginnings of two words, each of them inverted or not
+module _ (b c : Bool) (u v : List ℕ) (r : ℕ) where
+  pub signed-both : b ≡ true → c ≡ true → r ≡ commonSuffix bytes u v → r ≡ commonPrefix bytes (signed bytes b u) (signed bytes c v)
+  signed-both s t e = rw (s, t) e
+
+  pub signed-first : b ≡ true → c ≡ false → r ≡ cancellation bytes u v → r ≡ commonPrefix bytes (signed bytes b u) (signed bytes c v)
+  signed-first s t e = rw (s, t) (e ∙ cancellation-commonPrefix bytes byteLaws u v)
+
+  pub signed-second : b ≡ false → c ≡ true → r ≡ cancellation bytes v u → r ≡ commonPrefix bytes (signed bytes b u) (signed bytes c v)
+  signed-second s t e = rw (s, t) (e ∙ cancellation-commonPrefix bytes byteLaws v u ∙ commonPrefix-comm bytes byteLaws (inverse bytes v) u)
+
+  pub signed-neither : b ≡ false → c ≡ false → r ≡ commonPrefix bytes u v → r ≡ commonPrefix bytes (signed bytes b u) (signed bytes c v)
+  signed-neither s t e = rw (s, t) e

@@ -2,12 +2,13 @@
 -- reduction, and undoes the word on either side.
 use Prim.Native.Nat.{ℕ, suc, _+_, _-_, _<_}
 use mathlib.Core.Path.{_≡_, refl, sym, ap, _∙_}
+use mathlib.Core.Bool.{Bool, true, false, not}
 use mathlib.Core.List.{List, [], _∷_, _++_, map, reverse-cons, append-assoc, append-nil}
 use native.Mathlib.Omega.{arith}
 use lib.ListN.{length, getD, take, drop, take-append-drop, length-drop, length-reverse, length-map}
 use lib.Seq.{take-suc, take-at, getD-at}
 use Rattle.words.specs.Alphabet.{Alphabet}
-use Rattle.words.specs.Words.{push, freelyReduce, Irreducible, inverse}
+use Rattle.words.specs.Words.{push, freelyReduce, Irreducible, inverse, signed}
 use Rattle.words.proofs.Alphabet.{AlphabetLaws, same?}
 use Rattle.words.proofs.FreeReduction.{push-cancel, push-keep, irreducible-next, irreducible-tail, irreducible-cons, irreducible-join, freelyReduce-irreducible, freelyReduce-same, freelyReduce-left, freelyReduce-right, freelyReduce-pair-flip, freelyReduce-empty-left, freelyReduce-empty-right}
 
@@ -42,6 +43,15 @@ module _ {A : Type 0} (G : Alphabet A) (L : AlphabetLaws G) where
   unfolding inverse
   inverse-length w = length-reverse (map flip w) ∙ length-map w flip
 
+  -- a word or its inverse
+  pub signed-length : (b : Bool) (w : List A) → length (signed G b w) ≡ length w
+  signed-length true w = inverse-length w
+  signed-length false w = refl
+
+  pub signed-inverse : (b : Bool) (w : List A) → inverse G (signed G b w) ≡ signed G (not b) w
+  signed-inverse true w = inverse-twice w
+  signed-inverse false w = refl
+
   pub inverse-turn : (u v : List A) → u ≡ inverse G v → v ≡ inverse G u
   inverse-turn u v e = rw e (sym (inverse-twice v))
 
@@ -53,6 +63,10 @@ module _ {A : Type 0} (G : Alphabet A) (L : AlphabetLaws G) where
       (rw inverse-cons at (inverse-irreducible (y ∷ w) (irreducible-tail G L x (y ∷ w) h)))
       tt
       (λ e. irreducible-next G L x y w h (sym (e ∙ twice y))))
+
+  pub signed-irreducible : (b : Bool) (w : List A) → Irreducible G w → Irreducible G (signed G b w)
+  signed-irreducible true w h = inverse-irreducible w h
+  signed-irreducible false w h = h
 
   inverse-push : (x : A) (w : List A) → Irreducible G w → freelyReduce G (inverse G (x ∷ w)) ≡ inverse G (push G x w)
   inverse-push x [] h = rw inverse-singleton

@@ -1,31 +1,21 @@
 -- Joining words at the beginning of a buffer: a word or its inverse is put after what stands there, less what cancels.
 use Prim.Native.Nat.{_+_, _-_, _<_, _≤_, suc, ℕ}
+use mathlib.Core.Bool.{Bool, true, false}
 use mathlib.Core.List.{List, [], _++_, _∷_, append-assoc, append-nil}
 use mathlib.Core.Path.{_∙_, _≡_, ap, ap₂, sym}
 use native.Mathlib.Numerals.{add-one}
 use native.Mathlib.Omega.{arith}
-use lib.ListN.{drop, getD, length, length-drop, length-take, set, take}
+use lib.ListN.{drop, getD, length, length-drop, set, take}
 use lib.Seq.{drop-cons, drop-length, length-take-le, take-all, take-append-add, take-append-seam, take-suc-set, take-take}
 use borrow.Rule.Slice.PartMut.{putMid}
 use Rattle.words.specs.Alphabet.{bytes, flipByte}
 use Rattle.words.specs.Buffers.{written}
-use Rattle.words.specs.Words.{cancellation, commonSuffix, freelyReduce, inverse, none}
+use Rattle.words.specs.Words.{cancellation, commonPrefix, freelyReduce, inverse, signed}
 use Rattle.words.proofs.Alphabet.{byteLaws}
-use Rattle.words.proofs.Cancellation.{cancellation-inverse-right, cancellation-le-left, cancellation-le-right, freelyReduce-cancellation}
-use Rattle.words.proofs.Inverse.{drop-inverse, inverse-cons, inverse-irreducible, inverse-length, inverse-nil}
-use Rattle.words.proofs.FreeReduction.{irreducible-of-same}
-
--- a word put after the first n letters
-pub appended : (s w y : List ℕ) (n : ℕ) → n + length w ≤ length s → y ≡ written w (take (length s - n) (drop n s))
-    → take (n + length w) (putMid n (length s - n) s y) ≡ take n s ++ w
-appended s w y n room e =
-    let long : length (take n s) ≡ n = length-take-le n s (omega arith) in
-    ap (λ (k : ℕ). take (k + length w) (putMid n (length s - n) s y)) (sym long)
-    ∙ take-append-add (take n s) _ (length w)
-    ∙ ap (λ (l : List ℕ). take n s ++ l)
-    (ap (λ (l : List ℕ). take (length w) (l ++ drop (length s - n) (drop n s))) e
-    ∙ ap (take (length w)) (append-assoc w _ _)
-    ∙ take-append-seam w _)
+use Rattle.words.proofs.Buffers.{front-part}
+use Rattle.words.proofs.Cancellation.{cancellation-commonPrefix, freelyReduce-cancellation}
+use Rattle.words.proofs.Inverse.{drop-inverse, inverse-cons, inverse-nil, signed-irreducible}
+use Rattle.words.proofs.FreeReduction.{freelyReduce-left, freelyReduce-twice, irreducible-of-same}
 
 -- an inverse put after the first n letters, from its last letter to its first
 module _ (s₀ s w : List ℕ) (n at j : ℕ) (here : take at s ≡ take n s₀ ++ inverse bytes (drop j w)) where
@@ -48,80 +38,61 @@ module _ (s₀ s w : List ℕ) (n at j : ℕ) (here : take at s ≡ take n s₀ 
 pub inverse-begin : (s w : List ℕ) (n : ℕ) → take n s ≡ take n s ++ inverse bytes (drop (length w) w)
 inverse-begin s w n = sym (ap (λ (l : List ℕ). take n s ++ l) (ap (inverse bytes) (drop-length w) ∙ inverse-nil bytes byteLaws) ∙ append-nil (take n s))
 
--- the first n letters, as a part that is handed on
-front-part : (s : List ℕ) (n : ℕ) → take (n - 0) s ≡ take n s
-front-part s n =
-    let same : n - 0 ≡ n = omega arith in
-    ap (λ (k : ℕ). take k s) same
-
+-- what is left of a word or its inverse is put there
 rest-part : (w : List ℕ) (c : ℕ) → take (length w - c) (drop c w) ≡ drop c w
 rest-part w c = take-all (length w - c) (drop c w) (omega (arith, length-drop c w))
 
--- what stands there is multiplied by a word
-module _ (s w : List ℕ) (n c : ℕ) (told : c ≡ cancellation bytes (take (n - 0) s) w) where
-  counted : c ≡ cancellation bytes (take n s) w
-  counted = told ∙ ap (λ (l : List ℕ). cancellation bytes l w) (front-part s n)
-
-  pub push-left : c ≤ n
-  push-left = omega (arith, counted, cancellation-le-left bytes byteLaws (take n s) w, length-take n s)
-
-  pub push-right : c ≤ length w
-  push-right = omega (arith, counted, cancellation-le-right bytes byteLaws (take n s) w)
-
-  pub push-room : n + length w ≤ length s → n - c + length (take (length w - c) (drop c w)) ≤ length s
-  push-room room = rw (rest-part w c, length-drop c w) (omega (arith, push-left, push-right))
-
-  pub push-longer : n - c + length (take (length w - c) (drop c w)) ≤ n + length w
-  push-longer = rw (rest-part w c, length-drop c w) (omega (arith, push-left, push-right))
-
-  pub push-product : (t : List ℕ) → n + length w ≤ length s → freelyReduce bytes (take n s) ≡ take n s → freelyReduce bytes w ≡ w
-      → take (n - c + length (take (length w - c) (drop c w))) t ≡ take (n - c) s ++ take (length w - c) (drop c w)
-      → take (n - c + length (take (length w - c) (drop c w))) t ≡ freelyReduce bytes (take n s ++ w)
-  push-product t room freely word e =
+module _ (b : Bool) (s w : List ℕ) (n c : ℕ) (inside : c ≤ length w) (room : n + length w ≤ length s + c) where
+  pub plain-rest : (y : List ℕ) → b ≡ false → y ≡ written (take (length w - c) (drop c w)) (take (length s - n) (drop n s))
+      → take (n + length w - c) (putMid n (length s - n) s y) ≡ take n s ++ drop c (signed bytes b w)
+  plain-rest y plain e =
       let long : length (take n s) ≡ n = length-take-le n s (omega arith) in
-      let kept : length (take n s) - cancellation bytes (take n s) w ≡ n - c = omega (arith, counted) in
-      e ∙ ap (λ (l : List ℕ). take (n - c) s ++ l) (rest-part w c)
-      ∙ sym
-      (freelyReduce-cancellation bytes byteLaws (take n s) w (irreducible-of-same bytes byteLaws (take n s) freely)
-      (irreducible-of-same bytes byteLaws w word)
-      ∙ ap₂ (λ (k m : ℕ). take k (take n s) ++ drop m w) kept (sym counted)
-      ∙ ap (λ (l : List ℕ). l ++ drop c w) (take-take (n - c) n s (omega arith)))
-
--- what stands there is multiplied by the inverse of a word
-module _ (s w : List ℕ) (n c : ℕ) (told : c ≡ commonSuffix bytes (take (n - 0) s) w) where
-  counted-inverse : c ≡ cancellation bytes (take n s) (inverse bytes w)
-  counted-inverse =
-      told ∙ ap (λ (l : List ℕ). commonSuffix bytes l w) (front-part s n)
-      ∙ sym (cancellation-inverse-right bytes byteLaws (take n s) w)
-
-  pub inverse-left : c ≤ n
-  inverse-left = omega (arith, counted-inverse, cancellation-le-left bytes byteLaws (take n s) (inverse bytes w), length-take n s)
-
-  pub inverse-right : c ≤ length w
-  inverse-right = omega (arith, counted-inverse, cancellation-le-right bytes byteLaws (take n s) (inverse bytes w), inverse-length bytes byteLaws w)
-
-  beginning : take (length w - c - 0) w ≡ take (length w - c) w
-  beginning = front-part w (length w - c)
+      let size : n + length w - c ≡ length (take n s) + length (drop c w) = omega (arith, long, length-drop c w) in
+      rw plain
+      (ap (λ (k : ℕ). take k (putMid n (length s - n) s y)) size
+      ∙ take-append-add (take n s) _ (length (drop c w))
+      ∙ ap (λ (l : List ℕ). take n s ++ l)
+      (ap (λ (l : List ℕ). take (length (drop c w)) (l ++ drop (length s - n) (drop n s)))
+      (e ∙ ap (λ (l : List ℕ). written l (take (length s - n) (drop n s))) (rest-part w c))
+      ∙ ap (take (length (drop c w))) (append-assoc (drop c w) _ _)
+      ∙ take-append-seam (drop c w) _))
 
   size : length (take (length w - c - 0) w) ≡ length w - c
-  size = ap length beginning ∙ length-take-le (length w - c) w (omega arith)
+  size = ap length (front-part w (length w - c)) ∙ length-take-le (length w - c) w (omega arith)
 
-  pub inverse-room : n + length w ≤ length s → n - c + length (take (length w - c - 0) w) ≤ length s
-  inverse-room room = rw size (omega (arith, inverse-left, inverse-right))
+  pub inverse-rest : (t : List ℕ) → b ≡ true
+      → take (n + length (take (length w - c - 0) w)) t ≡ take n s ++ inverse bytes (take (length w - c - 0) w)
+      → take (n + length w - c) t ≡ take n s ++ drop c (signed bytes b w)
+  inverse-rest t inverted e =
+      let count : n + length w - c ≡ n + length (take (length w - c - 0) w) = omega (arith, size) in
+      rw inverted
+      (ap (λ (k : ℕ). take k t) count ∙ e
+      ∙ ap (λ (l : List ℕ). take n s ++ l) (ap (inverse bytes) (front-part w (length w - c)) ∙ sym (drop-inverse bytes byteLaws c w)))
 
-  pub inverse-longer : n - c + (length w - c) ≤ n + length w
-  inverse-longer = omega (arith, inverse-left, inverse-right)
+-- what stands there is multiplied by a word or its inverse
+module _ (b : Bool) (s w : List ℕ) (n c : ℕ) (told : c ≡ commonPrefix bytes (inverse bytes (take (n - 0) s)) (signed bytes b w)) where
+  counted : c ≡ cancellation bytes (take n s) (signed bytes b w)
+  counted =
+      told ∙ ap (λ (l : List ℕ). commonPrefix bytes (inverse bytes l) (signed bytes b w)) (front-part s n)
+      ∙ sym (cancellation-commonPrefix bytes byteLaws (take n s) (signed bytes b w))
 
-  pub inverse-product : (t : List ℕ) → n + length w ≤ length s → freelyReduce bytes (take n s) ≡ take n s → freelyReduce bytes w ≡ w
-      → take (n - c + length (take (length w - c - 0) w)) t ≡ take (n - c) s ++ inverse bytes (take (length w - c - 0) w)
-      → take (n - c + (length w - c)) t ≡ freelyReduce bytes (take n s ++ inverse bytes w)
-  inverse-product t room freely word e =
+  pub push-product : (t : List ℕ) → n + length w ≤ length s → freelyReduce bytes (take n s) ≡ take n s → freelyReduce bytes w ≡ w
+      → take (n - c + length w - c) t ≡ take (n - c) s ++ drop c (signed bytes b w)
+      → take (n - c + length w - c) t ≡ freelyReduce bytes (take n s ++ signed bytes b w)
+  push-product t room freely word e =
       let long : length (take n s) ≡ n = length-take-le n s (omega arith) in
-      let kept : length (take n s) - cancellation bytes (take n s) (inverse bytes w) ≡ n - c = omega (arith, counted-inverse) in
-      ap (λ (k : ℕ). take (n - c + k) t) (sym size) ∙ e
-      ∙ ap (λ (l : List ℕ). take (n - c) s ++ inverse bytes l) beginning
-      ∙ sym
-      (freelyReduce-cancellation bytes byteLaws (take n s) (inverse bytes w) (irreducible-of-same bytes byteLaws (take n s) freely)
-      (inverse-irreducible bytes byteLaws w (irreducible-of-same bytes byteLaws w word))
-      ∙ ap₂ (λ (k m : ℕ). take k (take n s) ++ drop m (inverse bytes w)) kept (sym counted-inverse)
-      ∙ ap₂ (λ (l m : List ℕ). l ++ m) (take-take (n - c) n s (omega arith)) (drop-inverse bytes byteLaws c w))
+      let kept : length (take n s) - cancellation bytes (take n s) (signed bytes b w) ≡ n - c = omega (arith, counted) in
+      e ∙ sym
+      (freelyReduce-cancellation bytes byteLaws (take n s) (signed bytes b w) (irreducible-of-same bytes byteLaws (take n s) freely)
+      (signed-irreducible bytes byteLaws b w (irreducible-of-same bytes byteLaws w word))
+      ∙ ap₂ (λ (k m : ℕ). take k (take n s) ++ drop m (signed bytes b w)) kept (sym counted)
+      ∙ ap (λ (l : List ℕ). l ++ drop c (signed bytes b w)) (take-take (n - c) n s (omega arith)))
+
+-- a buffer that begins with a product begins with a freely reduced word
+pub pushed-freelyReduced : (l t : List ℕ) (n : ℕ) → take n t ≡ freelyReduce bytes l → freelyReduce bytes (take n t) ≡ take n t
+pushed-freelyReduced l t n e = ap (freelyReduce bytes) e ∙ freelyReduce-twice bytes byteLaws l ∙ sym e
+
+-- two words put there in turn
+pub pushed-twice : (t t′ : List ℕ) (n r : ℕ) (u v : List ℕ) → take n t ≡ freelyReduce bytes u → take r t′ ≡ freelyReduce bytes (take n t ++ v)
+    → take r t′ ≡ freelyReduce bytes (u ++ v)
+pushed-twice t t′ n r u v e f = f ∙ ap (λ (l : List ℕ). freelyReduce bytes (l ++ v)) e ∙ sym (freelyReduce-left bytes byteLaws u v)

@@ -1,7 +1,7 @@
 -- Words over any letters: free reduction, inverse and cancellation. A word is a list of letters, of any length.
 use Prim.Native.Nat.{ℕ, suc}
 use mathlib.Core.Path.{_≡_}
-use mathlib.Core.Bool.{false, cond}
+use mathlib.Core.Bool.{Bool, false, cond}
 use mathlib.Core.List.{List, [], _∷_, _++_, reverse, map}
 use Rattle.words.specs.Alphabet.{Alphabet}
 
@@ -37,6 +37,10 @@ module _ {A : Type 0} (G : Alphabet A) where
   -- "The inverse of a word is its letters read backward with case changed."
   unfoldable pub inverse : List A → List A
   inverse w = reverse (map flip w)
+
+  -- a word, or its inverse
+  abbrev pub signed : Bool → List A → List A
+  signed inverted w = cond inverted (inverse w) w
 
   -- the length of the longest common prefix of two words
   abbrev pub commonPrefix : List A → List A → ℕ

@@ -3,7 +3,7 @@ ghost use Prim.Native.Nat.{_≤_, min};
 ghost use mathlib.Core.Path.{_≡_};
 ghost use lib.ListN.{length};
 ghost use Rattle.words.specs.Alphabet.{bytes};
-ghost use Rattle.words.specs.Words.{cancellation, commonPrefix, commonSuffix};
+ghost use Rattle.words.specs.Words.{cancellation, commonPrefix, commonSuffix, signed};
 use crate::letters::flip;
 
 // The smaller of two numbers.
@@ -65,4 +65,21 @@ pub fn cancellation(u: &[u8], v: &[u8]) -> usize
         i += 1;
     }
     i
+}
+
+// How many letters two words, each of them inverted or not, have in common at their beginnings.
+pub fn common_prefix_signed(inverted: bool, u: &[u8], reversed: bool, v: &[u8]) -> usize
+    ensures { λ r. ⌜ r ≡ commonPrefix bytes (signed bytes inverted (now (u .entry))) (signed bytes reversed (now (v .entry))) ⌝ }
+    ensures { λ r. ⌜ (r ≤ length (now (u .entry))) × (r ≤ length (now (v .entry))) ⌝ }
+{
+    if inverted {
+        if reversed {
+            return common_suffix(u, v);
+        }
+        return cancellation(u, v);
+    }
+    if reversed {
+        return cancellation(v, u);
+    }
+    common_prefix(u, v)
 }

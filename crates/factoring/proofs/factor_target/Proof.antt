@@ -1,7 +1,7 @@
 -- `factoring::factor_target` meets its contract: a product that was found is written, and otherwise the buffer is left alone.
 use borrow.Author.Needs.{needs}
+use Rattle.words.proofs.Joining.{pushed-freelyReduced}
 use Rattle.factoring.proofs.Factoring.{verdict-told, product-kept, product-written}
-use Rattle.moves.proofs.Making.{pushed-freelyReduced}
 use Rattle.factoring.proofs.factor_target.Statement.{statement}
 use Rattle.factoring.proofs.factor_target.Tie as tie
 

@@ -1,7 +1,8 @@
 -- `factoring::take_off` meets its contract: what leads a word leaves no longer word.
 use borrow.Author.Needs.{needs}
-use Rattle.factoring.proofs.Factoring.{front-freelyReduced, word-fits, word-freelyReduced, left-fits, left-word, left-short}
-use Rattle.moves.proofs.Making.{front-short}
+use Rattle.words.proofs.Buffers.{front-short}
+use Rattle.slots.proofs.Holding.{held-reduced, held-short}
+use Rattle.factoring.proofs.Factoring.{front-freelyReduced, left-fits, left-short, left-word}
 use Rattle.factoring.proofs.take_off.Statement.{statement}
 use Rattle.factoring.proofs.take_off.Tie as tie
 
@@ -22,7 +23,7 @@ slice-aggregate-divide c = search needs
 
 divide-requires : tie.Need-divide-requires
 divide-requires c κs =
-    ((search (word-fits, needs), search (front-short, needs), search needs), (search (word-freelyReduced, needs), search (front-freelyReduced, needs)))
+    ((search (held-short, needs), search (front-short, needs), search needs), (search (held-reduced, needs), search (front-freelyReduced, needs)))
 
 sub-copy : tie.Need-sub-copy
 sub-copy c = search needs

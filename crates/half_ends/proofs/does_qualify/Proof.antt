@@ -13,14 +13,14 @@ returns c = search (unqualified-blank, needs)
 returns-2 : tie.Need-returns-2
 returns-2 c = search (unqualified-odd, needs)
 
-front-elsewhere-requires : tie.Need-front-elsewhere-requires
-front-elsewhere-requires c κs = search needs
+half-elsewhere-requires : tie.Need-half-elsewhere-requires
+half-elsewhere-requires c κs = search needs
 
 returns-3 : tie.Need-returns-3
 returns-3 c = search (unqualified-front, needs)
 
-back-elsewhere-requires : tie.Need-back-elsewhere-requires
-back-elsewhere-requires c κs = search needs
+half-elsewhere-requires-2 : tie.Need-half-elsewhere-requires-2
+half-elsewhere-requires-2 c κs = search needs
 
 returns-4 : tie.Need-returns-4
 returns-4 c = search (qualified-back, needs)
@@ -32,7 +32,7 @@ does-qualify-spec =
     length-of-requires
     returns
     returns-2
-    front-elsewhere-requires
+    half-elsewhere-requires
     returns-3
-    back-elsewhere-requires
+    half-elsewhere-requires-2
     returns-4)

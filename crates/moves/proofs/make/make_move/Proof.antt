@@ -1,7 +1,8 @@
 -- `moves::make::make_move` meets its contract.
 use borrow.Author.Needs.{needs}
+use Rattle.words.proofs.Joining.{pushed-freelyReduced}
 use Rattle.records.proofs.Chains.{never}
-use Rattle.moves.proofs.Making.{move-fits, move-long, move-made, pushed-freelyReduced}
+use Rattle.moves.proofs.Making.{move-fits, move-long, move-made}
 use Rattle.moves.proofs.make.make_move.Statement.{statement}
 use Rattle.moves.proofs.make.make_move.Tie as tie
 
