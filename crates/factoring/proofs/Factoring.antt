@@ -33,10 +33,10 @@ use Rattle.slots.proofs.Systems.{record-length}
 use Rattle.factoring.specs.Factors.{targetWord, productFor, isFound, productAfter}
 use Rattle.slots.specs.Factors.{factorByte}
 use Rattle.leading.specs.Leads.{asFactor, leadFactor, LeadBelow}
-use Rattle.factoring.specs.ProductLetters.{productLetters, lettersIn}
 use Rattle.leading.specs.declared.Factor.{Factor as CodeFactor}
 use Rattle.leading.specs.declared.Lead.{Lead}
-use Rattle.leading.specs.declared.Lead.the-variants.{Factor as LeadFactor, Nothing}
+use Rattle.leading.specs.declared.Lead.the-variants.{Nothing, Factor as LeadFactor}
+use Rattle.factoring.specs.ProductLetters.{productLetters, lettersIn}
 
 -- the letter of a factor
 module _ (x : CodeFactor) where

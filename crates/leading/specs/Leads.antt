@@ -10,9 +10,9 @@ use Rattle.words.specs.Words.{signed}
 use Rattle.systems.specs.Factoring.{bigEnd, eitherOf, endsOther, halfStart}
 use Rattle.systems.specs.Products.{Factor}
 use Rattle.systems.specs.Rules.{anyBelow, ends, first, secondHalf}
-use Rattle.leading.specs.declared.Factor.{Factor as CodeFactor}
 use Rattle.leading.specs.declared.Lead.{Lead}
 use Rattle.leading.specs.declared.Lead.the-variants.{Nothing, Factor as LeadFactor}
+use Rattle.leading.specs.declared.Factor.{Factor as CodeFactor}
 
 -- a factor of the functions, as one of the definitions
 abbrev pub asFactor : CodeFactor → Factor

@@ -1,5 +1,4 @@
--- The pairs that need not be tried again: marks taken away and added, that a move changes no other pair, and which slots need not be tried
--- with one.
+-- The pairs that need not be tried again: marks set and added, that a move changes no other pair, and which slots need not be tried with one.
 use Prim.Native.Nat.{ℕ, zero, suc, _+_, _*_, _≤_, _<_}
 use mathlib.Core.Path.{_≡_, refl, sym, ap, ap₂, _∙_}
 use mathlib.Core.Bool.{Bool, true, false, cond, not, true≢false}
@@ -20,22 +19,10 @@ use Rattle.systems.specs.Moves.{Move, formed, made}
 use Rattle.systems.specs.Rules.{first, formAt, tryForm, tryOther, tryChanged, shortening, next}
 use Rattle.systems.proofs.Logic.{unless-some}
 use Rattle.systems.proofs.Searching.{first-each, first-some}
-use Rattle.systems.proofs.Shortening.{try-found, other-same}
+use Rattle.systems.proofs.Shortening.{try-found}
 use Rattle.systems.proofs.Undoing.{made-others}
 use Rattle.systems.proofs.Neither.{next-from}
-use Rattle.marks.specs.Marks.{Marked, Forgotten, Added, Settled, Outside}
-
--- a mark that is still there after one was taken away
-zero-set : (l : List ℕ) (q p : ℕ) → (getD (set l q 0) p 0 ≡ 0 → ⊥) → (p ≡ q → ⊥) × (getD l p 0 ≡ 0 → ⊥)
-zero-set l q p h = ((λ e. h (at-q (decLt q (length l)) e)), λ z. elsewhere (ℕ-discrete p q) z)
-  where
-    at-q : Dec (q < length l) → p ≡ q → getD (set l q 0) p 0 ≡ 0
-    at-q (yes i) e = rw e (getD-set-same l q 0 0 i)
-    at-q (no o) e = rw e (List·getD-eq-default (set l q 0) 0 {n = q} (rw (length-set l q 0) (omega arith)))
-
-    elsewhere : Dec (p ≡ q) → getD l p 0 ≡ 0 → ⊥
-    elsewhere (yes e) z = h (at-q (decLt q (length l)) e)
-    elsewhere (no o) z = h (getD-set-other l q p 0 0 o ∙ z)
+use Rattle.marks.specs.Marks.{Added, Marked, Outside, PairsSet, Settled}
 
 -- a mark that was added, or was there before
 one-set : (l : List ℕ) (k i a b : ℕ) → i < 16 → b < 16 → (getD (set l (k * 16 + i) 1) (a * 16 + b) 0 ≡ 0 → ⊥)
@@ -45,37 +32,43 @@ one-set l k i a b hi hb h = elim (ℕ-discrete (a * 16 + b) (k * 16 + i)) [
   | no o ↦ inr (λ z. h (getD-set-other l (k * 16 + i) (a * 16 + b) 1 0 o ∙ z))
 ]
 
--- the marks of the first j pairs with slot c, either way round, are taken away
-abbrev pub Forgot : ℕ → ℕ → List ℕ → List ℕ → Type 0
-Forgot c j marks₀ marks =
-    (p : ℕ) → (getD marks p 0 ≡ 0 → ⊥)
-    → (getD marks₀ p 0 ≡ 0 → ⊥) × ((i : ℕ) → i < j → p ≡ c * 16 + i → ⊥) × ((k : ℕ) → k < j → p ≡ k * 16 + c → ⊥)
+-- the first j pairs with slot c, either way round, are set to v
+abbrev pub SetTo : ℕ → ℕ → ℕ → List ℕ → List ℕ → Type 0
+SetTo c v j marks₀ marks =
+    (k i : ℕ) → k < 16 → i < 16
+    → ((((k ≡ c) × (i < j)) ⊎ ((i ≡ c) × (k < j))) × (getD marks (k * 16 + i) 0 ≡ v))
+    ⊎ ((k ≡ c → i < j → ⊥) × (i ≡ c → k < j → ⊥) × (getD marks (k * 16 + i) 0 ≡ getD marks₀ (k * 16 + i) 0))
 
-pub forgot-begin : (c : ℕ) (marks : List ℕ) → Forgot c 0 marks marks
-forgot-begin c marks p h = (h, (λ i l e. absurd (omega arith)), λ k l e. absurd (omega arith))
+pub set-begin : (c v : ℕ) (marks : List ℕ) → SetTo c v 0 marks marks
+set-begin c v marks k i hk hi = inr ((λ e l. omega arith), (λ e l. omega arith), refl)
 
-pub forgot-more : (c j : ℕ) (marks₀ marks : List ℕ) → Forgot c j marks₀ marks
-    → Forgot c (j + 1) marks₀ (set (set marks (c * 16 + j) 0) (j * 16 + c) 0)
-forgot-more c j marks₀ marks here p h =
-    let second : (p ≡ j * 16 + c → ⊥) × (getD (set marks (c * 16 + j) 0) p 0 ≡ 0 → ⊥) = zero-set (set marks (c * 16 + j) 0) (j * 16 + c) p h in
-    let firsts : (p ≡ c * 16 + j → ⊥) × (getD marks p 0 ≡ 0 → ⊥) = zero-set marks (c * 16 + j) p (second .1) in
-    let old : (getD marks₀ p 0 ≡ 0 → ⊥) × ((i : ℕ) → i < j → p ≡ c * 16 + i → ⊥) × ((k : ℕ) → k < j → p ≡ k * 16 + c → ⊥) = here p (firsts .1) in
-    (old .0, (λ i l e. row i (decLt i j) l e (old .1) (firsts .0)), λ k l e. column k (decLt k j) l e (old .2) (second .0))
+pub set-more : (c v j : ℕ) (marks₀ marks : List ℕ) → c < 16 → j < 16 → length marks ≡ 256 → SetTo c v j marks₀ marks
+    → SetTo c v (j + 1) marks₀ (set (set marks (c * 16 + j) v) (j * 16 + c) v)
+set-more c v j marks₀ marks hc hj sized here k i hk hi = elim (ℕ-discrete (k * 16 + i) (j * 16 + c)) [
+  | yes e ↦ inl (inr (omega arith, omega arith), rw e (getD-set-same once (j * 16 + c) v 0 (rw (length-set marks (c * 16 + j) v) (omega arith))))
+  | no n ↦ elim (ℕ-discrete (k * 16 + i) (c * 16 + j)) [
+    | yes e ↦ inl (inl (omega arith, omega arith), getD-set-other once (j * 16 + c) (k * 16 + i) v 0 n ∙ rw e (getD-set-same marks (c * 16 + j) v 0 (omega arith)))
+    | no m ↦
+        let same : getD (set once (j * 16 + c) v) (k * 16 + i) 0 ≡ getD marks (k * 16 + i) 0 =
+        getD-set-other once (j * 16 + c) (k * 16 + i) v 0 n ∙ getD-set-other marks (c * 16 + j) (k * 16 + i) v 0 m in
+        elim (here k i hk hi) [
+          | inl old ↦ inl (elim (old .0) [ inl p ↦ inl (p .0, omega (arith, p .1)) | inr p ↦ inr (p .0, omega (arith, p .1)) ], same ∙ old .1)
+          | inr old ↦ inr (
+            (λ e l. elim (decLt i j) [ yes h ↦ old .0 e h | no h ↦ m (omega arith) ]),
+            (λ e l. elim (decLt k j) [ yes h ↦ old .1 e h | no h ↦ n (omega arith) ]),
+            same ∙ old .2,
+          )
+        ]
+  ]
+]
   where
-    row : (i : ℕ) → Dec (i < j) → i < j + 1 → p ≡ c * 16 + i → ((i : ℕ) → i < j → p ≡ c * 16 + i → ⊥) → (p ≡ c * 16 + j → ⊥) → ⊥
-    row i (yes m) l e old new = old i m e
-    row i (no m) l e old new = new (omega arith)
+    once : List ℕ
+    once = set marks (c * 16 + j) v
 
-    column : (k : ℕ) → Dec (k < j) → k < j + 1 → p ≡ k * 16 + c → ((k : ℕ) → k < j → p ≡ k * 16 + c → ⊥) → (p ≡ j * 16 + c → ⊥) → ⊥
-    column k (yes m) l e old new = old k m e
-    column k (no m) l e old new = new (omega arith)
-
-pub forgot-all : (c j : ℕ) (marks₀ marks : List ℕ) → c < 16 → 16 ≤ j → Forgot c j marks₀ marks → Forgotten c marks₀ (set marks (c * 16 + c) 1)
-forgot-all c j marks₀ marks few full here k i hk hi h = elim (one-set marks c c k i few hi h) [
-  | inl own ↦ inl (own .0 ∙ sym (own .1))
-  | inr still ↦
-      let told = here (k * 16 + i) still in
-      inr ((λ e. told .1 i (omega arith) (omega arith)), (λ e. told .2 k (omega arith) (omega arith)), told .0)
+pub set-all : (c v j : ℕ) (marks₀ marks : List ℕ) → 16 ≤ j → SetTo c v j marks₀ marks → PairsSet c v marks₀ marks
+set-all c v j marks₀ marks full here k i hk hi = elim (here k i hk hi) [
+  | inl set ↦ inl (elim (set .0) [ inl p ↦ inl (p .0) | inr p ↦ inr (p .0) ], set .1)
+  | inr kept ↦ inr ((λ e. kept .0 e (omega arith)), (λ e. kept .1 e (omega arith)), kept .2)
 ]
 
 -- which forms shorten slot k by slot i depends on the two words alone
@@ -91,11 +84,20 @@ other-same-words S T k i p q = ap₂ (tryWords k i) p q
 
 -- after a move, the pairs that have nothing to do with its changed slot stay marked
 pub marked-made : (n : ℕ) (S : List (List ℕ)) (m : Move) (marks marks′ : List ℕ) → n ≤ 16 → Marked n S marks
-    → Forgotten (m .changed) marks marks′ → Marked n (made bytes S m) marks′
-marked-made n S m marks marks′ few marked gone k i hk hi h = elim (gone k i (omega arith) (omega arith) h) [
-  | inl own ↦ other-same bytes byteLaws (made bytes S m) k i (sym own)
-  | inr told ↦
-      other-same-words (made bytes S m) S k i (made-others bytes S m k (told .0)) (made-others bytes S m i (told .1)) ∙ marked k i hk hi (told .2)
+    → PairsSet (m .changed) 0 marks marks′ → Marked n (made bytes S m) marks′
+marked-made n S m marks marks′ few marked gone k i hk hi h = elim (gone k i (omega arith) (omega arith)) [
+  | inl set ↦ absurd (h (set .1))
+  | inr kept ↦
+      other-same-words (made bytes S m) S k i (made-others bytes S m k (kept .0)) (made-others bytes S m i (kept .1))
+      ∙ marked k i hk hi (λ z. h (kept .2 ∙ z))
+]
+
+-- pairs with a slot are marked that neither shortens another nor is shortened
+pub marked-blank : (n c v : ℕ) (S : List (List ℕ)) (marks marks′ : List ℕ) → n ≤ 16 → Marked n S marks → PairsSet c v marks marks′
+    → ((k i : ℕ) → (k ≡ c) ⊎ (i ≡ c) → tryOther bytes S k i ≡ none) → Marked n S marks′
+marked-blank n c v S marks marks′ few marked blank fails k i hk hi h = elim (blank k i (omega arith) (omega arith)) [
+  | inl set ↦ fails k i (set .0)
+  | inr kept ↦ marked k i hk hi (λ z. h (kept .2 ∙ z))
 ]
 
 pub back-inside : (marks : List ℕ) (k i p : ℕ) → k < 16 → i < 16 → length marks ≡ 256 → i * 16 + k < length (set marks p 1)
@@ -107,21 +109,6 @@ added-twice pair marks marks′ marks″ one two a b ha hb h = elim (two a b ha 
 
 added-one : (pair : ℕ → ℕ → Type 0) (marks : List ℕ) (k i : ℕ) → i < 16 → pair k i → Added pair marks (set marks (k * 16 + i) 1)
 added-one pair marks k i hi p a b ha hb h = elim (one-set marks k i a b hi hb h) [ inl e ↦ inl (rw (e .0, e .1) p) | inr old ↦ inr old ]
-
-pub added-none : (pair : ℕ → ℕ → Type 0) (marks : List ℕ) → Added pair marks marks
-added-none pair marks a b ha hb h = inr h
-
-pub own-more : (marks₀ marks : List ℕ) (k : ℕ) → k < 16 → Added (λ a b. a ≡ b) marks₀ marks → Added (λ a b. a ≡ b) marks₀ (set marks (k * 16 + k) 1)
-own-more marks₀ marks k h here =
-    added-twice (λ a b. a ≡ b) marks₀ marks (set marks (k * 16 + k) 1) here (added-one (λ a b. a ≡ b) marks k k h refl)
-
-pub blank-more : (marks₀ marks : List ℕ) (c j : ℕ) → c < 16 → j < 16 → Added (λ a b. (a ≡ c) ⊎ (b ≡ c)) marks₀ marks
-    → Added (λ a b. (a ≡ c) ⊎ (b ≡ c)) marks₀ (set (set marks (c * 16 + j) 1) (j * 16 + c) 1)
-blank-more marks₀ marks c j hc hj here =
-    let once = set marks (c * 16 + j) 1 in
-    added-twice (λ a b. (a ≡ c) ⊎ (b ≡ c)) marks₀ once (set once (j * 16 + c) 1)
-    (added-twice (λ a b. (a ≡ c) ⊎ (b ≡ c)) marks₀ marks once here (added-one (λ a b. (a ≡ c) ⊎ (b ≡ c)) marks c j hj (inl refl)))
-    (added-one (λ a b. (a ≡ c) ⊎ (b ≡ c)) once j c hc (inr refl))
 
 -- a pair, and the same pair the other way round
 module _ (marks : List ℕ) (k i : ℕ) (both : Bool) (hk : k < 16) (hi : i < 16) where
@@ -135,18 +122,13 @@ module _ (marks : List ℕ) (k i : ℕ) (both : Bool) (hk : k < 16) (hi : i < 16
       added-twice (λ a b. ((a ≡ k) × (b ≡ i)) ⊎ ((both ≡ true) × (a ≡ i) × (b ≡ k))) marks once (set once (i * 16 + k) 1) pair-there
       (added-one (λ a b. ((a ≡ k) × (b ≡ i)) ⊎ ((both ≡ true) × (a ≡ i) × (b ≡ k))) once i k hk (inr (t, refl, refl)))
 
--- marks added for pairs that are tried in vain
+-- marks added for pairs that were tried and failed
 pub marked-more : (n : ℕ) (S : List (List ℕ)) (pair : ℕ → ℕ → Type 0) (marks marks′ : List ℕ) → n ≤ 16 → Marked n S marks
     → Added pair marks marks′ → ((k i : ℕ) → k < n → i < n → pair k i → tryOther bytes S k i ≡ none) → Marked n S marks′
-marked-more n S pair marks marks′ few marked added vain k i hk hi h = elim (added k i (omega arith) (omega arith) h) [
-  | inl p ↦ vain k i hk hi p
+marked-more n S pair marks marks′ few marked added fails k i hk hi h = elim (added k i (omega arith) (omega arith) h) [
+  | inl p ↦ fails k i hk hi p
   | inr old ↦ marked k i hk hi old
 ]
-
-pub marked-own : (n : ℕ) (S : List (List ℕ)) (marks marks′ : List ℕ) → n ≤ 16 → Marked n S marks → Added (λ a b. a ≡ b) marks marks′
-    → Marked n S marks′
-marked-own n S marks marks′ few marked added =
-    marked-more n S (λ a b. a ≡ b) marks marks′ few marked added (λ k i hk hi e. other-same bytes byteLaws S k i (sym e))
 
 -- a move found for slot k changes slot k
 other-changed : (S : List (List ℕ)) (k i : ℕ) (m : Move) → tryOther bytes S k i ≡ some m → m .changed ≡ k

@@ -13,12 +13,12 @@ use Rattle.marks.specs.declared.Slots.{Slots}
 abbrev pub Marked : ℕ → List (List ℕ) → List ℕ → Type 0
 Marked n S marks = (k i : ℕ) → k < n → i < n → (getD marks (k * 16 + i) 0 ≡ 0 → ⊥) → tryOther bytes S k i ≡ none
 
--- a table after the marks of all pairs with slot c were taken away, but that of c's with itself: what is marked now is a pair of a slot
--- with itself, or was marked before and has nothing to do with c
-abbrev pub Forgotten : ℕ → List ℕ → List ℕ → Type 0
-Forgotten c marks marks′ =
-    (k i : ℕ) → k < 16 → i < 16 → (getD marks′ (k * 16 + i) 0 ≡ 0 → ⊥)
-    → (k ≡ i) ⊎ ((k ≡ c → ⊥) × (i ≡ c → ⊥) × (getD marks (k * 16 + i) 0 ≡ 0 → ⊥))
+-- a table after all pairs with slot c, either way round, were set to v: the others stay
+abbrev pub PairsSet : ℕ → ℕ → List ℕ → List ℕ → Type 0
+PairsSet c v marks marks′ =
+    (k i : ℕ) → k < 16 → i < 16
+    → (((k ≡ c) ⊎ (i ≡ c)) × (getD marks′ (k * 16 + i) 0 ≡ v))
+    ⊎ ((k ≡ c → ⊥) × (i ≡ c → ⊥) × (getD marks′ (k * 16 + i) 0 ≡ getD marks (k * 16 + i) 0))
 
 -- a table after marks were added: what is marked is one of those pairs, or was marked before
 abbrev pub Added : (ℕ → ℕ → Type 0) → List ℕ → List ℕ → Type 0

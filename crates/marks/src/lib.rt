@@ -5,7 +5,7 @@ ghost use mathlib.Core.Bool.{false, true};
 ghost use mathlib.Core.Logic.{_⊎_};
 ghost use mathlib.Core.Path.{_≡_};
 ghost use lib.ListN.{getD, length};
-ghost use Rattle.marks.specs.Marks.{Added, Forgotten, Outside};
+ghost use Rattle.marks.specs.Marks.{Added, Outside, PairsSet};
 
 // The slots from one up to, but without, another.
 pub struct Slots {
@@ -40,19 +40,7 @@ pub fn is_fresh(marks: &[u8], k: usize, i: usize) -> bool
     i != k
 }
 
-// Marks each slot's pair with itself, which is never tried.
-pub fn mark_own(marks: &mut [u8])
-    requires { ⌜ length (now marks) ≡ 256 ⌝ }
-    ensures { λ _. ⌜ Added (λ a b. a ≡ b) (now (marks .entry)) (now (marks .exit)) ⌝ }
-{
-    let mut k = 0;
-    while k < 16 {
-        marks[k * 16 + k] = 1;
-        k += 1;
-    }
-}
-
-// Marks a pair that was tried in vain, or the same pair both ways round.
+// Marks a pair that was tried and failed, or the same pair both ways round.
 pub fn mark(marks: &mut [u8], k: usize, i: usize, both: bool)
     requires { ⌜ (k < 16) × (i < 16) × (length (now marks) ≡ 256) ⌝ }
     ensures { λ _. ⌜ Added (λ a b. ((a ≡ k) × (b ≡ i)) ⊎ ((both ≡ true) × (a ≡ i) × (b ≡ k))) (now (marks .entry)) (now (marks .exit)) ⌝ }
@@ -65,33 +53,17 @@ pub fn mark(marks: &mut [u8], k: usize, i: usize, both: bool)
     }
 }
 
-// Marks all pairs with a blank slot.
-pub fn mark_blank(marks: &mut [u8], c: usize)
+// Sets the marks of all pairs with a slot, either way round; 0 takes them away.
+pub fn set_pairs(marks: &mut [u8], c: usize, value: u8)
     requires { ⌜ (c < 16) × (length (now marks) ≡ 256) ⌝ }
-    ensures { λ _. ⌜ Added (λ a b. (a ≡ c) ⊎ (b ≡ c)) (now (marks .entry)) (now (marks .exit)) ⌝ }
+    ensures { λ _. ⌜ PairsSet c value (now (marks .entry)) (now (marks .exit)) ⌝ }
 {
     let mut j = 0;
     while j < 16 {
         let first = c * 16 + j;
         let second = j * 16 + c;
-        marks[first] = 1;
-        marks[second] = 1;
+        marks[first] = value;
+        marks[second] = value;
         j += 1;
     }
-}
-
-// Takes away the marks of all pairs with a slot, but that of its pair with itself.
-pub fn forget(marks: &mut [u8], c: usize)
-    requires { ⌜ (c < 16) × (length (now marks) ≡ 256) ⌝ }
-    ensures { λ _. ⌜ Forgotten c (now (marks .entry)) (now (marks .exit)) ⌝ }
-{
-    let mut j = 0;
-    while j < 16 {
-        let first = c * 16 + j;
-        let second = j * 16 + c;
-        marks[first] = 0;
-        marks[second] = 0;
-        j += 1;
-    }
-    marks[c * 16 + c] = 1;
 }

@@ -20,12 +20,12 @@ use Rattle.systems.proofs.ProductLaws.{Named, over-named, overWords-over, word-
 use Rattle.systems.proofs.Runs.{member, member-freely, member-length, member-multiplied, member-only, no-member}
 use Rattle.systems.proofs.Logic.{option-cases}
 use Rattle.records.specs.Answers.{onFine}
-use Rattle.records.specs.Records.{recordOf, wordOf}
-use Rattle.records.specs.Refusals.{eachByte, targetRules}
 use Rattle.records.specs.declared.answers.Checked.{Checked}
 use Rattle.records.specs.declared.answers.Checked.the-variants.{Failed, Fine}
 use Rattle.records.specs.declared.answers.Verdict.{Verdict}
 use Rattle.records.specs.declared.answers.Verdict.the-variants.{Member, NotMember}
+use Rattle.records.specs.Records.{recordOf, wordOf}
+use Rattle.records.specs.Refusals.{eachByte, targetRules}
 use Rattle.records.proofs.RoundTrip.{word-short}
 use Rattle.slots.specs.Factors.{factorByte, factorOf, productOf}
 use Rattle.slots.specs.Refusals.{systemRules, wordRoom}

@@ -9,10 +9,10 @@ use Rattle.words.specs.Alphabet.{bytes}
 use Rattle.systems.specs.Products.{Factor}
 use Rattle.systems.specs.Rules.{runWithin}
 use Rattle.records.specs.Answers.{onFine}
-use Rattle.records.specs.Refusals.{_andThen_, must, targetRules}
 use Rattle.records.specs.declared.answers.Checked.{Checked}
 use Rattle.records.specs.declared.answers.Verdict.{Verdict}
 use Rattle.records.specs.declared.answers.Verdict.the-variants.{Member, NotMember}
+use Rattle.records.specs.Refusals.{_andThen_, must, targetRules}
 use Rattle.slots.specs.Refusals.{systemRules, wordRoom}
 use Rattle.slots.specs.Systems.{freelyReducedWords, slots}
 use Rattle.runs.specs.Runs.{roomFor}

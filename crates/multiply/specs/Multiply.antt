@@ -9,10 +9,10 @@ use Rattle.slots.specs.Systems.{slots, systemOf}
 use Rattle.records.specs.Records.{recordOf}
 use Rattle.words.specs.Buffers.{written}
 use Rattle.records.specs.Answers.{answerOf, onFine}
-use Rattle.records.specs.Refusals.{must, _andThen_, targetRules}
-use Rattle.slots.specs.Refusals.{systemRules, wordRoom}
 use Rattle.records.specs.declared.answers.Answer.{Answer}
 use Rattle.records.specs.declared.answers.Checked.{Checked}
+use Rattle.records.specs.Refusals.{must, _andThen_, targetRules}
+use Rattle.slots.specs.Refusals.{systemRules, wordRoom}
 use Rattle.slots.specs.Factors.{productOf}
 use Rattle.multiply.specs.Targets.{slotRule}
 

@@ -9,11 +9,11 @@ use native.Mathlib.Numerals.{add-one}
 use native.Mathlib.Omega.{arith}
 use borrow.Author.Tests.{not-false, not-true}
 use Rattle.records.specs.Answers.{answerOf, onFine}
-use Rattle.records.specs.Refusals.{_andThen_, eachBelow, must, refusal}
 use Rattle.records.specs.declared.answers.Answer.{Answer}
 use Rattle.records.specs.declared.answers.Checked.{Checked}
 use Rattle.records.specs.declared.answers.Checked.the-variants.{Failed, Fine}
 use Rattle.records.specs.declared.answers.Refusal.{Refusal}
+use Rattle.records.specs.Refusals.{_andThen_, eachBelow, must, refusal}
 
 -- the outcome of a test that a callee made
 pub told-false : {t : Bool} {u : Bool} → t ≡ u → not t ≡ true → u ≡ false

@@ -24,8 +24,8 @@ use Rattle.slots.specs.Refusals.{systemRules}
 use Rattle.slots.specs.Systems.{bytesOf, freelyReducedWords}
 use Rattle.slots.proofs.Systems.{system-size}
 use Rattle.moves.specs.Found.{foundMove}
-use Rattle.moves.specs.Logs.{logOf}
 use Rattle.moves.specs.declared.found.Found.{Found}
+use Rattle.moves.specs.Logs.{logOf}
 use Rattle.runs.specs.Runs.{FoundNext, isNone, stopped}
 use Rattle.reduction.specs.Reduction.{reductionOf, refusedReduction, refusedTest, summed, testAnswer, testedOf}
 use Rattle.reduction.specs.declared.answers.Reduction.{Reduction}

@@ -1,6 +1,6 @@
 -- What the answers of reduce and test mean: their exact definitions, taken with the laws of runs, say what the owner demands of them.
 -- A run that comes to its end leaves short words of letters, which are read back from the bytes written, and replay takes its log both ways.
-use Prim.Native.Nat.{_*_, _≤_, ℕ}
+use Prim.Native.Nat.{_*_, _-_, _≤_, ℕ}
 use mathlib.Core.Bool.{false, true}
 use mathlib.Core.List.{List, map}
 use mathlib.Core.Logic.{_↔_}
@@ -35,8 +35,8 @@ use Rattle.slots.proofs.RoundTrip.{AllShort, LetterWords, bytesOf-length, bytes
 use Rattle.slots.proofs.Systems.{loaded-freelyReduced, room-fits, system-few}
 use Rattle.moves.specs.Logs.{logOf, logRules, moveSize}
 use Rattle.moves.proofs.LogBack.{AllBetween, logOf-length, logOf-moves, logOf-passes, valid-between}
-use Rattle.replay.specs.Replay.{backwardRules, forwardRules, replayRules}
-use Rattle.replay.proofs.Accepting.{backward-accepts, between-inside, forward-accepts, replay-accepts}
+use Rattle.replay.specs.Replay.{replayRules, runRules}
+use Rattle.replay.proofs.Accepting.{replay-accepts, run-accepts}
 use Rattle.runs.specs.Runs.{isNone, roomFor, stopped}
 use Rattle.reduction.specs.Meaning.{EnoughMoves, ReduceMeans, Reduces, TestMeans}
 use Rattle.reduction.specs.Reduction.{logAfter, reduceAnswer, reduceLog, reduceTests, reduceWords, reductionOf, runTests, sameRank, testAnswer, testedOf, wordsAfter}
@@ -112,16 +112,15 @@ module _ (s : List ℕ) (n : ℕ) where
   log-passes = logOf-passes (slots s) (runMoves s n) (rw (words-length s) at moves-between)
 
   -- no word on the way is too long, forward or backward
-  forward-runs : forwardRules (freelyReducedWords s) (runMoves s n) 1 ≡ Fine
+  forward-runs : runRules false (freelyReducedWords s) (logOf (runMoves s n)) ≡ Fine
   unfolding freelyReducedWords
-  forward-runs = forward-accepts (freelyReducedWords s) (runMoves s n) 1 (between-inside (length (freelyReducedWords s)) (runMoves s n) moves-between)
-      (λ i. forward-way-within bytes byteLaws n (systemOf s) 63 i (reduced-short s))
+  forward-runs = run-accepts false (freelyReducedWords s) (logOf (runMoves s n)) (rw (words-length s) log-passes)
+      (λ d. rw (logOf-moves (runMoves s n)) (forward-way-within bytes byteLaws n (systemOf s) 63 d (reduced-short s)))
 
-  backward-runs : backwardRules (runWords s n) (runMoves s n) 1 ≡ Fine
+  backward-runs : runRules true (runWords s n) (logOf (runMoves s n)) ≡ Fine
   unfolding freelyReducedWords
-  backward-runs = backward-accepts (runWords s n) (runMoves s n) 1
-      (rw (run-length bytes n (freelyReducedWords s)) (between-inside (length (freelyReducedWords s)) (runMoves s n) moves-between))
-      (λ i. backward-way-within bytes byteLaws n (systemOf s) 63 i (reduced-short s))
+  backward-runs = run-accepts true (runWords s n) (logOf (runMoves s n)) (rw left-length log-passes)
+      (λ d. rw (logOf-moves (runMoves s n)) (backward-way-within bytes byteLaws n (systemOf s) 63 (length (runMoves s n) - d) (reduced-short s)))
 
   -- and backward it comes to the given words, freely reduced
   backward-gives : undoneAll bytes (runWords s n) (runMoves s n) ≡ freelyReducedWords s
@@ -166,12 +165,12 @@ module _ (s : List ℕ) (n : ℕ) (system : systemRules s ≡ Fine) where
   -- replay takes the log forward from the given system and backward from the system left
   replay-forward : (room : ℕ) → slots s * 64 ≤ room → replayRules s (logOf (runMoves s n)) false room ≡ Fine
   replay-forward room h =
-      replay-accepts s (logOf (runMoves s n)) false room system (log-passes s n) h (rw (logOf-moves (runMoves s n)) (forward-runs s n))
+      replay-accepts s (logOf (runMoves s n)) false room system (log-passes s n) h (forward-runs s n)
 
   replay-backward : (room : ℕ) → slots s * 64 ≤ room → replayRules (bytesOf (runWords s n)) (logOf (runMoves s n)) true room ≡ Fine
   replay-backward room h =
       replay-accepts (bytesOf (runWords s n)) (logOf (runMoves s n)) true room left-passes (rw (left-slots s n) (log-passes s n))
-      (rw (left-slots s n) h) (rw (logOf-moves (runMoves s n), left-words) (backward-runs s n))
+      (rw (left-slots s n) h) (rw left-words (backward-runs s n))
 
   -- the bytes written of a run that has come to its end are what reduce must give
   run-reduces : (v : Verdict) → next bytes (runWords s n) ≡ none

@@ -9,11 +9,11 @@ use Rattle.words.specs.Buffers.{written}
 use Rattle.systems.specs.Rank.{rank}
 use Rattle.systems.specs.Rules.{movesWithin, runWithin}
 use Rattle.records.specs.Answers.{onFine}
-use Rattle.records.specs.Refusals.{_andThen_, must}
 use Rattle.records.specs.declared.answers.Checked.{Checked}
 use Rattle.records.specs.declared.answers.Checked.the-variants.{Failed, Fine}
 use Rattle.records.specs.declared.answers.Verdict.{Verdict}
 use Rattle.records.specs.declared.answers.Verdict.the-variants.{Done, Refused}
+use Rattle.records.specs.Refusals.{_andThen_, must}
 use Rattle.slots.specs.Refusals.{systemRoom, systemRules}
 use Rattle.slots.specs.Systems.{bytesOf, freelyReducedWords}
 use Rattle.moves.specs.Logs.{logOf}

@@ -3,7 +3,6 @@ ghost use mathlib.Core.Path.{_≡_};
 ghost use Rattle.reduction.specs.Meaning.{TestMeans};
 ghost use Rattle.reduction.specs.Reduction.{refusedTest, testAnswer};
 use crate::answers::Tested;
-use marks::mark_own;
 use records::answers::Checked;
 use records::answers::Verdict;
 use records::record::RECORD;
@@ -32,7 +31,6 @@ fn test_records(system: &[u8]) -> Tested
     let mut letters = [0u8; 1024];
     let mut lengths = [0usize; 16];
     let mut marks = [0u8; 256];
-    mark_own(&mut marks);
     load(system, &mut letters, &mut lengths);
     let found = find_move(&letters, &lengths, n, 0, &mut marks);
     Tested {

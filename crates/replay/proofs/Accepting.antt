@@ -1,55 +1,49 @@
--- Which runs are not refused: the moves change slots that the system has, and each word on the way has at most 63 letters.
--- So a log whose words stay short runs forward from the system before it, and backward from the system after it.
-use Prim.Native.Nat.{_*_, _+_, _<_, _≤_, suc, ℕ}
-use mathlib.Core.Bool.{Bool, true}
-use mathlib.Core.List.{List, [], _∷_}
+-- Which runs are not refused: the log passes its tests, and each word on the way has at most 63 letters.
+use Prim.Native.Nat.{_*_, _+_, _/_, _<_, _≤_, ℕ}
+use mathlib.Core.Bool.{Bool, false, true}
+use mathlib.Core.List.{List}
 use mathlib.Core.Path.{_≡_, refl}
-use lib.ListN.{drop, length, take}
+use lib.ListN.{length}
 use borrow.Author.Tests.{le-leb}
 use Rattle.words.specs.Alphabet.{bytes}
-use Rattle.systems.specs.Moves.{Move, made, madeAll, movedWord, undo, undoneAll}
-use Rattle.systems.proofs.Undoing.{made-changed, made-length, undoneAll-length}
+use Rattle.systems.specs.Moves.{Move, made, movedWord}
+use Rattle.systems.proofs.Undoing.{made-changed}
+use Rattle.records.proofs.Chains.{each-passes, must-pass}
 use Rattle.records.specs.declared.answers.Checked.the-variants.{Fine}
 use Rattle.slots.specs.Refusals.{systemRules}
 use Rattle.slots.specs.Systems.{freelyReducedWords, slots}
 use Rattle.slots.proofs.RoundTrip.{AllShort}
 use Rattle.slots.proofs.Systems.{room-fits}
-use Rattle.moves.specs.Logs.{logRules, movesIn}
-use Rattle.moves.proofs.LogBack.{AllBetween}
-use Rattle.replay.specs.Replay.{backwardRules, fits, forwardRules, replayRules, replayTests, runRules}
-
--- each move changes one of the first n slots
-abbrev pub AllInside : ℕ → List Move → Type 0
-AllInside n [] = Unit
-AllInside n (m ∷ ms) = (m .changed < n) × AllInside n ms
-
-pub between-inside : (n : ℕ) (ms : List Move) → AllBetween n ms → AllInside n ms
-between-inside n [] all = tt
-between-inside n (m ∷ ms) all = (all .0 .0, between-inside n ms all.1)
+use Rattle.moves.specs.Logs.{logRules, moveAt, moveSize, movesIn}
+use Rattle.moves.proofs.Logging.{passed-move, read-changed}
+use Rattle.replay.specs.Replay.{directed, fits, placeAt, ranBefore, replayRules, replayTests, replayed, runRules, turnRule}
+use Rattle.replay.proofs.Running.{place-inside, turn-length, turn-next}
 
 -- a move fits when the words after it do
 short-fits : (S : List (List ℕ)) (m : Move) → m .changed < length S → AllShort (made bytes S m) → fits S m ≡ true
 short-fits S m inside short = le-leb (length (movedWord bytes S m)) 63 (rw (made-changed bytes S m inside) at (short (m .changed)))
 
--- forward: the words after each move are short
-pub forward-accepts : (S : List (List ℕ)) (ms : List Move) (j : ℕ) → AllInside (length S) ms
-    → ((i : ℕ) → AllShort (madeAll bytes S (take i ms))) → forwardRules S ms j ≡ Fine
-forward-accepts S [] j inside short = refl
-forward-accepts S (m ∷ ms) j inside short =
-    rw (short-fits S m inside.0 (short 1))
-    (forward-accepts (made bytes S m) ms (j + 1) (rw (made-length bytes S m) inside.1) (λ i. short (suc i)))
+-- the move of a turn changes the slot that the log names
+directed-changed : (backward : Bool) (m : Move) → directed backward m .changed ≡ m .changed
+directed-changed true m = refl
+directed-changed false m = refl
 
--- backward: the words before each move are short
-pub backward-accepts : (S : List (List ℕ)) (ms : List Move) (j : ℕ) → AllInside (length S) ms
-    → ((i : ℕ) → AllShort (undoneAll bytes S (drop i ms))) → backwardRules S ms j ≡ Fine
-backward-accepts S [] j inside short = refl
-backward-accepts S (m ∷ ms) j inside short =
-    let fitting : fits (undoneAll bytes S ms) (undo m) ≡ true =
-    short-fits (undoneAll bytes S ms) (undo m) (rw (undoneAll-length bytes S ms) inside.0) (short 0) in
-    rw (backward-accepts S ms (j + 1) inside.1 (λ i. short (suc i)), fitting)
+-- a log that passes its tests, and short words after each of its moves
+pub run-accepts : (backward : Bool) (S : List (List ℕ)) (log : List ℕ) → logRules (length S) log ≡ Fine
+    → ((d : ℕ) → AllShort (replayed backward S (ranBefore backward (movesIn log) d))) → runRules backward S log ≡ Fine
+unfolding turnRule
+run-accepts backward S log logged short = each-passes (turnRule backward S log) (length log / moveSize) (λ d h.
+    let place : ℕ = placeAt backward (length log / moveSize) d in
+    let before : List (List ℕ) = replayed backward S (ranBefore backward (movesIn log) d) in
+    let m : Move = directed backward (moveAt log place) in
+    let named : moveAt log place .changed < length S =
+    read-changed (length S) log place (passed-move (length S) log logged place (place-inside backward (length log / moveSize) d h)) refl in
+    let inside : m .changed < length before =
+    rw (turn-length log S backward (ranBefore backward (movesIn log) d), directed-changed backward (moveAt log place)) named in
+    must-pass _ 12 (place + 1) (short-fits before m inside (rw (turn-next log S backward d h) at (short (d + 1)))))
 
 -- the whole call: a system and a log that pass, a buffer that is long enough, and a run that is not refused
 pub replay-accepts : (s log : List ℕ) (way : Bool) (room : ℕ) → systemRules s ≡ Fine → logRules (slots s) log ≡ Fine
-    → slots s * 64 ≤ room → runRules way (freelyReducedWords s) (movesIn log) ≡ Fine → replayRules s log way room ≡ Fine
+    → slots s * 64 ≤ room → runRules way (freelyReducedWords s) log ≡ Fine → replayRules s log way room ≡ Fine
 unfolding replayRules replayTests
 replay-accepts s log way room system logged long ran = rw (system, logged, ← room-fits (slots s * 64) room long, ran)

@@ -1,13 +1,11 @@
 -- The call replay: its tests one after the other, what they tell once they are passed, and what the call answers.
 -- The words that are run over are those of the system, freely reduced.
 use Prim.Native.Nat.{_*_, _/_, _≤_, ℕ}
-use mathlib.Core.Bool.{Bool, false, true}
+use mathlib.Core.Bool.{Bool}
 use mathlib.Core.List.{List}
 use mathlib.Core.Path.{_∙_, _≡_, ap, sym}
 use lib.ListN.{length}
-use Rattle.words.specs.Alphabet.{bytes}
 use Rattle.words.specs.Buffers.{written}
-use Rattle.systems.specs.Moves.{Move, madeAll, undoneAll}
 use Rattle.records.specs.Refusals.{_andThen_}
 use Rattle.records.specs.declared.answers.Checked.{Checked}
 use Rattle.records.specs.declared.answers.Checked.the-variants.{Failed, Fine}
@@ -17,21 +15,7 @@ use Rattle.slots.specs.Refusals.{systemRules, wordRoom}
 use Rattle.slots.specs.Systems.{bytesOf, freelyReducedWords, slots}
 use Rattle.slots.proofs.Systems.{room-enough, system-size}
 use Rattle.moves.specs.Logs.{logRules, movesIn}
-use Rattle.replay.specs.Replay.{backwardRules, forwardRules, replayRules, replayTests, replayed, runRules}
-
--- a run, one way or the other
-module _ (S : List (List ℕ)) (ms : List Move) {way : Bool} {x : Checked} where
-  pub ran-backward : way ≡ true → x ≡ backwardRules S ms 1 → x ≡ runRules way S ms
-  ran-backward back e = rw back e
-
-  pub ran-forward : way ≡ false → x ≡ forwardRules S ms 1 → x ≡ runRules way S ms
-  ran-forward on e = rw on e
-
-  pub left-backward : (T : List (List ℕ)) → way ≡ true → (x ≡ Fine → T ≡ undoneAll bytes S ms) → x ≡ Fine → T ≡ replayed way S ms
-  left-backward T back told fine = rw back (told fine)
-
-  pub left-forward : (T : List (List ℕ)) → way ≡ false → (x ≡ Fine → T ≡ madeAll bytes S ms) → x ≡ Fine → T ≡ replayed way S ms
-  left-forward T on told fine = rw on (told fine)
+use Rattle.replay.specs.Replay.{replayRules, replayTests, replayed, runRules}
 
 -- what the tests tell once they are passed
 module _ (s log : List ℕ) (room : ℕ) {x : Checked} (e : x ≡ replayTests s log room) (h : x ≡ Fine) where
@@ -58,9 +42,9 @@ module _ (s log : List ℕ) (way : Bool) (room : ℕ) where
   rules-tests e h = then-failed _ _ e h
 
   pub rules-run : {q x : Checked} (S : List (List ℕ)) → q ≡ replayTests s log room → q ≡ Fine → S ≡ freelyReducedWords s
-      → x ≡ runRules way S (movesIn log) → x ≡ replayRules s log way room
+      → x ≡ runRules way S log → x ≡ replayRules s log way room
   unfolding replayRules
-  rules-run S e h same told = then-fine _ _ e h (told ∙ ap (λ (T : List (List ℕ)). runRules way T (movesIn log)) same)
+  rules-run S e h same told = then-fine _ _ e h (told ∙ ap (λ (T : List (List ℕ)). runRules way T log) same)
 
 -- the bytes of the words after the run
 pub run-written : (s log : List ℕ) (way : Bool) (S T : List (List ℕ)) (out buffer : List ℕ) {x : Checked} → S ≡ freelyReducedWords s

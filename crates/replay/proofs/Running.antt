@@ -1,25 +1,26 @@
--- The moves of a log, made from the first to the last or undone from the last to the first, as two loops run them.
--- What a run refuses, and what it leaves, is what the moves that are still to come refuse and leave.
+-- The moves of a log, made from the first to the last or undone from the last to the first: one turn after the other.
 use Prim.Native.Nat.{_%_, _+_, _-_, _/_, _<_, _≤_, suc, zero, ℕ}
 use mathlib.Core.Bool.{Bool, false, not, true}
-use mathlib.Core.List.{List, [], _∷_}
+use mathlib.Core.List.{List, [], _++_, _∷_}
 use mathlib.Core.Path.{_∙_, _≡_, ap, ap₂, refl, sym}
-use native.Mathlib.Nat.{zero-add}
+use native.Mathlib.Nat.{le-antisymm}
+use native.Mathlib.Numerals.{add-one}
 use native.Mathlib.Omega.{arith}
 use lib.Dec.{leb}
-use lib.ListN.{drop, drop-of-length-le, length}
+use lib.ListN.{drop, drop-of-length-le, length, take}
+use lib.Seq.{take-all, take-suc}
 use borrow.Author.Tests.{not-false, not-true}
 use Rattle.words.specs.Alphabet.{bytes}
-use Rattle.words.proofs.Below.{below-drop, below-length}
-use Rattle.systems.specs.Moves.{Move, made, madeAll, movedWord, undo, undoing, undoneAll}
+use Rattle.words.proofs.Below.{below-at, below-drop, below-length}
+use Rattle.systems.specs.Moves.{Move, made, madeAll, movedWord, undoing, undoneAll}
 use Rattle.systems.specs.Rules.{formAt}
-use Rattle.records.specs.Refusals.{must, refusal}
+use Rattle.systems.proofs.Undoing.{madeAll-length, madeAll-snoc, undoneAll-length}
+use Rattle.records.specs.Refusals.{eachBelow, must, refusal}
 use Rattle.records.specs.declared.answers.Checked.{Checked}
-use Rattle.records.specs.declared.answers.Checked.the-variants.{Failed, Fine}
-use Rattle.records.specs.declared.answers.Refusal.{Refusal}
-use Rattle.records.proofs.Chains.{told-false, told-true}
+use Rattle.records.specs.declared.answers.Checked.the-variants.{Fine}
+use Rattle.records.proofs.Chains.{each-fail, each-pass, must-pass}
 use Rattle.moves.specs.Logs.{moveAt, moveSize, movesIn}
-use Rattle.replay.specs.Replay.{backwardRules, forwardRules}
+use Rattle.replay.specs.Replay.{directed, placeAt, ranBefore, replayed, runRules, turnRule}
 
 -- the form that undoes a form, both counted from 0
 form-even : (f : ℕ) → f < 4 → f % 2 ≡ 0 → formAt (f + 1) ≡ undoing (formAt f)
@@ -37,107 +38,94 @@ form-odd (suc (suc (suc zero))) h n = refl
 form-odd (suc (suc (suc (suc f)))) h n = absurd (omega arith)
 
 -- a move whose form is the undoing one takes its move back
-module _ (k f i : ℕ) (known : f < 4) where
-  pub undo-even : f % 2 ≡ 0
-      → _≡_ {A = Move} (record { changed = k; form = formAt (f + 1); other = i }) (undo (record { changed = k; form = formAt f; other = i }))
-  undo-even e = rw (form-even f known e)
+module _ (backward : Bool) (k f i : ℕ) where
+  pub directed-forward : not backward ≡ true
+      → _≡_ {A = Move} (record { changed = k; form = formAt f; other = i }) (directed backward (record { changed = k; form = formAt f; other = i }))
+  directed-forward way = rw (not-true backward way)
 
-  pub undo-odd : (f % 2 ≡ 0 → ⊥)
-      → _≡_ {A = Move} (record { changed = k; form = formAt (f - 1); other = i }) (undo (record { changed = k; form = formAt f; other = i }))
-  undo-odd n = rw (form-odd f known n)
+  module _ (way : not backward ≡ false) (known : f < 4) where
+    pub directed-even : f % 2 ≡ 0
+        → _≡_ {A = Move} (record { changed = k; form = formAt (f + 1); other = i }) (directed backward (record { changed = k; form = formAt f; other = i }))
+    directed-even e = rw (not-false backward way, form-even f known e)
 
--- one turn forward: the move at j is read, and tried on the present system
-module _ (log : List ℕ) (S₀ S : List (List ℕ)) (j : ℕ) (m : Move) {t : Bool} (inside : j < length log / moveSize) (read : m ≡ moveAt log j)
-    (tried : t ≡ leb (length (movedWord bytes S m)) 63) where
-  ahead : drop j (movesIn log) ≡ m ∷ drop (j + 1) (movesIn log)
-  ahead = below-drop (moveAt log) (length log / moveSize) j inside ∙ ap (λ (k : Move). k ∷ drop (j + 1) (movesIn log)) (sym read)
+    pub directed-odd : (f % 2 ≡ 0 → ⊥)
+        → _≡_ {A = Move} (record { changed = k; form = formAt (f - 1); other = i }) (directed backward (record { changed = k; form = formAt f; other = i }))
+    directed-odd n = rw (not-false backward way, form-odd f known n)
 
-  pub forward-fails : {x : Checked} → forwardRules S₀ (movesIn log) 1 ≡ forwardRules S (drop j (movesIn log)) (j + 1)
-      → not t ≡ true → x ≡ refusal 12 (j + 1) → x ≡ forwardRules S₀ (movesIn log) 1
-  forward-fails here long e = rw (here, ahead, told-false tried long, e)
+-- where the move of a turn stands
+module _ {backward : Bool} (count d : ℕ) where
+  pub place-backward : backward ≡ true → count - 1 - d ≡ placeAt backward count d
+  place-backward way = rw way
 
-  module _ (S′ : List (List ℕ)) (done : t ≡ true → S′ ≡ made bytes S m) (fine : not t ≡ false) where
-    next : S′ ≡ made bytes S m
-    next = done (not-false t fine)
+  pub place-forward : backward ≡ false → d ≡ placeAt backward count d
+  place-forward way = rw way
 
-    pub forward-rules : forwardRules S₀ (movesIn log) 1 ≡ forwardRules S (drop j (movesIn log)) (j + 1)
-        → forwardRules S₀ (movesIn log) 1 ≡ forwardRules S′ (drop (j + 1) (movesIn log)) (j + 1 + 1)
-    forward-rules here = rw (here, ahead, told-true tried fine, next)
+pub place-inside : (backward : Bool) (count d : ℕ) → d < count → placeAt backward count d < count
+place-inside true count d h = omega arith
+place-inside false count d h = h
 
-    pub forward-makes : madeAll bytes S₀ (movesIn log) ≡ madeAll bytes S (drop j (movesIn log))
-        → madeAll bytes S₀ (movesIn log) ≡ madeAll bytes S′ (drop (j + 1) (movesIn log))
-    forward-makes here = rw (here, ahead, next)
-
--- no move is left
-module _ (log : List ℕ) (S₀ S : List (List ℕ)) (j : ℕ) (over : length log / moveSize ≤ j) where
-  nothing : drop j (movesIn log) ≡ []
-  nothing = drop-of-length-le (movesIn log) {i = j} (rw (below-length (moveAt log) (length log / moveSize)) over)
-
-  pub forward-passes : forwardRules S₀ (movesIn log) 1 ≡ forwardRules S (drop j (movesIn log)) (j + 1)
-      → Fine ≡ forwardRules S₀ (movesIn log) 1
-  forward-passes here = rw (here, nothing)
-
-  pub forward-made : madeAll bytes S₀ (movesIn log) ≡ madeAll bytes S (drop j (movesIn log)) → S ≡ madeAll bytes S₀ (movesIn log)
-  forward-made here = rw (here, nothing)
-
--- backward, a refusal among the later moves decides
-later-fails : (S : List (List ℕ)) (i : ℕ) (ms : List Move) (j : ℕ) (f : Refusal) → backwardRules S (drop i ms) (i + j) ≡ Failed f
-    → backwardRules S ms j ≡ Failed f
-later-fails S zero ms j f e = rw zero-add at e
-later-fails S (suc i) [] j f e = e
-later-fails S (suc i) (m ∷ ms) j f e =
-    let place : suc i + j ≡ i + (j + 1) = omega arith in
-    rw (later-fails S i ms (j + 1) f (ap (backwardRules S (drop i ms)) (sym place) ∙ e))
-
--- the last d moves of a log
-abbrev pub lastMoves : ℕ → List ℕ → List Move
-lastMoves d log = drop (length log / moveSize - d) (movesIn log)
-
--- at first no move is undone
+-- the systems of a run
 module _ (log : List ℕ) (S : List (List ℕ)) where
-  none-yet : lastMoves 0 log ≡ []
-  none-yet = drop-of-length-le (movesIn log) {i = length log / moveSize - 0} (omega (arith, below-length (moveAt log) (length log / moveSize)))
+  moves-count : length (movesIn log) ≡ length log / moveSize
+  moves-count = below-length (moveAt log) (length log / moveSize)
 
-  pub backward-begin : backwardRules S (lastMoves 0 log) (length log / moveSize - 0 + 1) ≡ Fine
-  backward-begin = rw none-yet
+  pub turn-begin : (backward : Bool) → S ≡ replayed backward S (ranBefore backward (movesIn log) 0)
+  turn-begin true = rw (drop-of-length-le (movesIn log) {i = length (movesIn log) - 0} (omega arith))
+  turn-begin false = refl
 
-  pub backward-first : S ≡ undoneAll bytes S (lastMoves 0 log)
-  backward-first = rw none-yet
+  pub turn-next : (backward : Bool) (d : ℕ) → d < length log / moveSize
+      → replayed backward S (ranBefore backward (movesIn log) (d + 1))
+      ≡ made bytes (replayed backward S (ranBefore backward (movesIn log) d)) (directed backward (moveAt log (placeAt backward (length log / moveSize) d)))
+  turn-next true d h =
+      let count : ℕ = length log / moveSize in
+      let here : length (movesIn log) - (d + 1) ≡ count - 1 - d = omega (arith, moves-count) in
+      let after : count - 1 - d + 1 ≡ length (movesIn log) - d = omega (arith, moves-count) in
+      ap (undoneAll bytes S)
+      (ap (λ (i : ℕ). drop i (movesIn log)) here ∙ below-drop (moveAt log) count (count - 1 - d) (omega arith)
+      ∙ ap (λ (i : ℕ). moveAt log (count - 1 - d) ∷ drop i (movesIn log)) after)
+  turn-next false d h =
+      ap (madeAll bytes S)
+      (ap (λ (i : ℕ). take i (movesIn log)) (add-one d) ∙ take-suc (movesIn log) d (moveAt log d) (rw moves-count h)
+      ∙ ap (λ (m : Move). take d (movesIn log) ++ (m ∷ [])) (below-at (moveAt log) (length log / moveSize) d (moveAt log d) h))
+      ∙ madeAll-snoc bytes S (take d (movesIn log)) (moveAt log d)
 
--- one turn backward: the move before the last d is read, and its undoing tried on the present system
-module _ (log : List ℕ) (S₀ S : List (List ℕ)) (d j : ℕ) (m u : Move) {t : Bool} (inside : d < length log / moveSize)
-    (place : j ≡ length log / moveSize - 1 - d) (read : m ≡ moveAt log j) (turned : u ≡ undo m)
-    (tried : t ≡ leb (length (movedWord bytes S u)) 63) (here : S ≡ undoneAll bytes S₀ (lastMoves d log)) where
-  after : j + 1 ≡ length log / moveSize - d
-  after = omega arith
+  turn-last : (backward : Bool) → ranBefore backward (movesIn log) (length log / moveSize) ≡ movesIn log
+  turn-last true =
+      let none-left : length (movesIn log) - length log / moveSize ≡ 0 = omega (arith, moves-count) in
+      ap (λ (i : ℕ). drop i (movesIn log)) none-left
+  turn-last false = take-all (length log / moveSize) (movesIn log) (omega (arith, moves-count))
 
-  before : length log / moveSize - (d + 1) ≡ j
-  before = omega arith
+  pub turn-length : (backward : Bool) (ms : List Move) → length (replayed backward S ms) ≡ length S
+  turn-length true ms = undoneAll-length bytes S ms
+  turn-length false ms = madeAll-length bytes S ms
 
-  behind : drop j (movesIn log) ≡ m ∷ lastMoves d log
-  behind = below-drop (moveAt log) (length log / moveSize) j (omega arith) ∙ ap₂ (λ (k : Move) (i : ℕ). k ∷ drop i (movesIn log)) (sym read) after
+  module _ (backward : Bool) (d : ℕ) (T : List (List ℕ)) (here : T ≡ replayed backward S (ranBefore backward (movesIn log) d)) where
+    -- the move of a turn is read and tried
+    module _ (at : ℕ) (m u : Move) {t : Bool} (place : at ≡ placeAt backward (length log / moveSize) d) (read : m ≡ moveAt log at)
+        (turned : u ≡ directed backward m) (tried : t ≡ leb (length (movedWord bytes T u)) 63) (inside : d < length log / moveSize) where
+      same-move : u ≡ directed backward (moveAt log (placeAt backward (length log / moveSize) d))
+      same-move = turned ∙ ap (directed backward) (read ∙ ap (moveAt log) place)
 
-  module _ (passed : backwardRules S₀ (lastMoves d log) (length log / moveSize - d + 1) ≡ Fine) where
-    turn : backwardRules S₀ (drop j (movesIn log)) (j + 1) ≡ must t 12 (j + 1)
-    turn = rw (behind, after, passed, ← here, tried, turned)
+      turn-told : must t 12 (at + 1) ≡ turnRule backward S log d
+      unfolding turnRule
+      turn-told =
+          ap₂ (λ (b : Bool) (i : ℕ). must b 12 (i + 1))
+          (tried ∙ ap₂ (λ (U : List (List ℕ)) (v : Move). leb (length (movedWord bytes U v)) 63) here same-move) place
 
-    pub backward-fails : {x : Checked} → not t ≡ true → x ≡ refusal 12 (j + 1) → x ≡ backwardRules S₀ (movesIn log) 1
-    backward-fails long e = e ∙ sym (later-fails S₀ j (movesIn log) 1 _ (turn ∙ rw (not-true t long)))
+      module _ (passed : eachBelow (turnRule backward S log) d ≡ Fine) where
+        pub turn-fails : {x : Checked} → not t ≡ true → x ≡ refusal 12 (at + 1) → x ≡ runRules backward S log
+        turn-fails long e =
+            each-fail (turnRule backward S log) d passed (length log / moveSize) inside (e ∙ sym (sym turn-told ∙ rw (not-true t long))) e
 
-    pub backward-rules : not t ≡ false → backwardRules S₀ (lastMoves (d + 1) log) (length log / moveSize - (d + 1) + 1) ≡ Fine
-    backward-rules fine = rw before (turn ∙ rw (not-false t fine))
+        pub turn-passes : not t ≡ false → eachBelow (turnRule backward S log) (d + 1) ≡ Fine
+        turn-passes short = each-pass (turnRule backward S log) d passed (sym turn-told ∙ must-pass t 12 (at + 1) (not-false t short))
 
-  pub backward-undoes : (S′ : List (List ℕ)) → (t ≡ true → S′ ≡ made bytes S u) → not t ≡ false
-      → S′ ≡ undoneAll bytes S₀ (lastMoves (d + 1) log)
-  backward-undoes S′ done fine = rw (before, behind, ← here) (done (not-false t fine) ∙ ap (made bytes S) turned)
+      pub turn-makes : (T′ : List (List ℕ)) → (t ≡ true → T′ ≡ made bytes T u) → not t ≡ false
+          → T′ ≡ replayed backward S (ranBefore backward (movesIn log) (d + 1))
+      turn-makes T′ done short =
+          done (not-false t short) ∙ ap₂ (made bytes) here same-move ∙ sym (turn-next backward d inside)
 
--- every move is undone
-module _ (log : List ℕ) (S₀ : List (List ℕ)) (d : ℕ) (over : length log / moveSize ≤ d) where
-  all : length log / moveSize - d ≡ 0
-  all = omega arith
-
-  pub backward-passes : backwardRules S₀ (lastMoves d log) (length log / moveSize - d + 1) ≡ Fine → Fine ≡ backwardRules S₀ (movesIn log) 1
-  backward-passes passed = rw all at (sym passed)
-
-  pub backward-undone : (S : List (List ℕ)) → S ≡ undoneAll bytes S₀ (lastMoves d log) → S ≡ undoneAll bytes S₀ (movesIn log)
-  backward-undone S here = rw all at here
+    -- no move is left
+    pub turn-end : length log / moveSize ≤ d → d ≤ length log / moveSize → T ≡ replayed backward S (movesIn log)
+    turn-end over most =
+        here ∙ ap (replayed backward S) (ap (ranBefore backward (movesIn log)) (le-antisymm most over) ∙ turn-last backward)

@@ -1,13 +1,11 @@
 // Replay: a system and a log in, the system after the log's moves out, forward or backward.
-ghost use Prim.Native.Nat.{_-_, _<_};
+ghost use Prim.Native.Nat.{_<_};
 ghost use mathlib.Core.Path.{_≡_};
-ghost use Rattle.words.specs.Alphabet.{bytes};
-ghost use Rattle.systems.specs.Moves.{madeAll, undoneAll, undo as Moves·undo};
 ghost use Rattle.records.specs.declared.answers.Checked.the-variants.{Fine};
 ghost use Rattle.slots.specs.Held.{Held, held};
 ghost use Rattle.moves.specs.Found.{moveOf};
 ghost use Rattle.moves.specs.Logs.{logRules, movesIn};
-ghost use Rattle.replay.specs.Replay.{backwardRules, forwardRules, replayAnswer, replayBuffer, replayTests, replayed, runRules};
+ghost use Rattle.replay.specs.Replay.{placeAt, replayAnswer, replayBuffer, replayTests, replayed, runRules, directed as Replay·directed};
 use moves::found::Move;
 use moves::log::MOVE;
 use moves::log::check_log;
@@ -60,55 +58,20 @@ fn check_replay(system: &[u8], log: &[u8], room: usize) -> Checked
     check_room(n * RECORD, room)
 }
 
-// Runs the moves of a log, one way or the other, with refusal 12.
+// Runs the moves of a log, the first one first, or undoes them, the last one first, with refusal 12.
 fn run(log: &[u8], backward: bool, n: usize, letters: &mut [u8], lengths: &mut [usize]) -> Checked
     requires { ⌜ logRules n (now log) ≡ Fine ⌝ }
     requires { ⌜ Held n (now letters) (now lengths) ⌝ }
-    ensures rules { λ r. ⌜ r ≡ runRules backward (held n (now (letters .entry)) (now (lengths .entry))) (movesIn (now (log .entry))) ⌝ }
+    ensures rules { λ r. ⌜ r ≡ runRules backward (held n (now (letters .entry)) (now (lengths .entry))) (now (log .entry)) ⌝ }
     ensures words { λ r. ⌜ (r ≡ Fine → held n (now (letters .exit)) (now (lengths .exit)) ≡ replayed backward (held n (now (letters .entry)) (now (lengths .entry))) (movesIn (now (log .entry)))) ⌝ }
-    ensures held { λ _. ⌜ Held n (now (letters .exit)) (now (lengths .exit)) ⌝ }
-{
-    if backward {
-        return run_backward(log, n, letters, lengths);
-    }
-    run_forward(log, n, letters, lengths)
-}
-
-// Makes the moves of a log, the first one first.
-fn run_forward(log: &[u8], n: usize, letters: &mut [u8], lengths: &mut [usize]) -> Checked
-    requires { ⌜ logRules n (now log) ≡ Fine ⌝ }
-    requires { ⌜ Held n (now letters) (now lengths) ⌝ }
-    ensures rules { λ r. ⌜ r ≡ forwardRules (held n (now (letters .entry)) (now (lengths .entry))) (movesIn (now (log .entry))) 1 ⌝ }
-    ensures words { λ r. ⌜ (r ≡ Fine → held n (now (letters .exit)) (now (lengths .exit)) ≡ madeAll bytes (held n (now (letters .entry)) (now (lengths .entry))) (movesIn (now (log .entry)))) ⌝ }
-    ensures held { λ _. ⌜ Held n (now (letters .exit)) (now (lengths .exit)) ⌝ }
-{
-    let count = log.len() / MOVE;
-    let mut j = 0;
-    while j < count {
-        let step = read_move(n, log, j);
-        let fits = make_move(letters, lengths, n, step);
-        if !fits {
-            return refuse(12, j + 1);
-        }
-        j += 1;
-    }
-    Checked::Fine
-}
-
-// Undoes the moves of a log, the last one first.
-fn run_backward(log: &[u8], n: usize, letters: &mut [u8], lengths: &mut [usize]) -> Checked
-    requires { ⌜ logRules n (now log) ≡ Fine ⌝ }
-    requires { ⌜ Held n (now letters) (now lengths) ⌝ }
-    ensures rules { λ r. ⌜ r ≡ backwardRules (held n (now (letters .entry)) (now (lengths .entry))) (movesIn (now (log .entry))) 1 ⌝ }
-    ensures words { λ r. ⌜ (r ≡ Fine → held n (now (letters .exit)) (now (lengths .exit)) ≡ undoneAll bytes (held n (now (letters .entry)) (now (lengths .entry))) (movesIn (now (log .entry)))) ⌝ }
     ensures held { λ _. ⌜ Held n (now (letters .exit)) (now (lengths .exit)) ⌝ }
 {
     let count = log.len() / MOVE;
     let mut done = 0;
     while done < count {
-        let at = from_last(count, done);
-        let step = undo(read_move(n, log, at));
-        let fits = make_move(letters, lengths, n, step);
+        let at = place_at(backward, count, done);
+        let m = directed(backward, read_move(n, log, at));
+        let fits = make_move(letters, lengths, n, m);
         if !fits {
             return refuse(12, at + 1);
         }
@@ -117,26 +80,29 @@ fn run_backward(log: &[u8], n: usize, letters: &mut [u8], lengths: &mut [usize])
     Checked::Fine
 }
 
-// The move that comes next when some of them are done, the last one first.
-fn from_last(count: usize, done: usize) -> usize
+// Where the next move stands in the log when some of them are done.
+fn place_at(backward: bool, count: usize, done: usize) -> usize
     requires { ⌜ done < count ⌝ }
     ensures { λ r. ⌜ r < count ⌝ }
-    ensures { λ r. ⌜ r ≡ count - 1 - done ⌝ }
+    ensures { λ r. ⌜ r ≡ placeAt backward count done ⌝ }
 {
-    count - 1 - done
+    if backward { count - 1 - done } else { done }
 }
 
-// The move that takes a move back: forms 1 and 2 undo each other, and so do 3 and 4.
-fn undo(step: Move) -> Move
-    requires { ⌜ step .form < 4 ⌝ }
-    ensures { λ r. ⌜ (r .changed ≡ step .changed) × (r .other ≡ step .other) × (r .form < 4) ⌝ }
-    ensures { λ r. ⌜ moveOf r ≡ Moves·undo (moveOf step) ⌝ }
+// A move, or backward the move that takes it back: forms 1 and 2 undo each other, and so do 3 and 4.
+fn directed(backward: bool, m: Move) -> Move
+    requires { ⌜ m .form < 4 ⌝ }
+    ensures { λ r. ⌜ (r .changed ≡ m .changed) × (r .other ≡ m .other) × (r .form < 4) ⌝ }
+    ensures { λ r. ⌜ moveOf r ≡ Replay·directed backward (moveOf m) ⌝ }
 {
-    let form = step.form;
+    if !backward {
+        return m;
+    }
+    let form = m.form;
     let undoing = if form % 2 == 0 { form + 1 } else { form - 1 };
     Move {
-        changed: step.changed,
+        changed: m.changed,
         form: undoing,
-        other: step.other,
+        other: m.other,
     }
 }

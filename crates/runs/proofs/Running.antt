@@ -2,7 +2,7 @@
 use Prim.Native.Nat.{_*_, _+_, _<_, _≤_, ℕ}
 use mathlib.Core.Bool.{Bool, true}
 use mathlib.Core.List.{List, _++_, append-assoc}
-use mathlib.Core.Logic.{_⊎_, inl, inr}
+use mathlib.Core.Logic.{inl, inr}
 use mathlib.Core.Option.{some}
 use mathlib.Core.Path.{_∙_, _≡_, ap, ap₂, refl, sym}
 use native.Mathlib.Omega.{arith}
@@ -14,20 +14,20 @@ use Rattle.words.specs.Alphabet.{bytes}
 use Rattle.words.specs.Buffers.{written}
 use Rattle.words.proofs.Alphabet.{byteLaws}
 use Rattle.systems.specs.Moves.{Move, made, madeAll, movedWord}
-use Rattle.systems.specs.Products.{FreelyReduced, word}
+use Rattle.systems.specs.Products.{word}
 use Rattle.systems.specs.Rules.{halfEnd, movesWithin, next, runWithin, shortening}
 use Rattle.systems.proofs.Neither.{next-halfEnd, next-shortening, next-valid}
 use Rattle.systems.proofs.Runs.{ended-moves, turn-length, turn-moves, turn-run}
 use Rattle.slots.specs.Held.{Held, held}
 use Rattle.slots.proofs.Holding.{held-length, held-short, held-word}
 use Rattle.moves.specs.Found.{FoundBelow, foundMove, moveOf}
-use Rattle.moves.specs.Logs.{logOf, logRecord, moveSize}
 use Rattle.moves.specs.declared.found.Found.{Found}
 use Rattle.moves.specs.declared.found.Found.the-variants.{Nothing, Move as FoundMove}
 use Rattle.moves.specs.declared.found.Move.{Move as CodeMove}
+use Rattle.moves.specs.Logs.{logOf, logRecord, moveSize}
 use Rattle.moves.proofs.LogBack.{logOf-last, logOf-length}
-use Rattle.marks.specs.Marks.{Added, Forgotten, Marked, Settled}
-use Rattle.marks.proofs.Marking.{marked-made, marked-more, settled-made}
+use Rattle.marks.specs.Marks.{Marked, PairsSet, Settled}
+use Rattle.marks.proofs.Marking.{marked-blank, marked-made, settled-made}
 use Rattle.shortening.proofs.Searching.{blank-changed, blank-other}
 use Rattle.runs.specs.Runs.{FoundNext, isNone, stopped}
 
@@ -65,21 +65,20 @@ module _ (n : ℕ) (letters lengths : List ℕ) (T : List (List ℕ)) {r : Bool}
   pub advanced : T ≡ made bytes (held n letters lengths) (moveOf m)
   advanced = done (fits ∙ next-fits n letters lengths m here told)
 
-  pub advanced-marked : (marks marks′ : List ℕ) → Marked n (held n letters lengths) marks → Forgotten (m .changed) marks marks′ → Marked n T marks′
+  pub advanced-marked : (marks marks′ : List ℕ) → Marked n (held n letters lengths) marks → PairsSet (m .changed) 0 marks marks′ → Marked n T marks′
   advanced-marked marks marks′ marked gone =
       rw advanced (marked-made n (held n letters lengths) (moveOf m) marks marks′ (here .few) marked gone)
 
 -- the pairs with a blank slot
-pub blank-marked : (n c size : ℕ) (letters lengths marks marks′ : List ℕ) → n ≤ 16 → c < n → FreelyReduced bytes (held n letters lengths)
-    → size ≡ getD lengths c 0 → size ≡ 0 → Marked n (held n letters lengths) marks → Added (λ a b. (a ≡ c) ⊎ (b ≡ c)) marks marks′
-    → Marked n (held n letters lengths) marks′
-blank-marked n c size letters lengths marks marks′ few inside freely told blank marked added =
+pub blank-marked : (n c size v : ℕ) (letters lengths marks marks′ : List ℕ) → Held n letters lengths → c < n → size ≡ getD lengths c 0 → size ≡ 0
+    → Marked n (held n letters lengths) marks → PairsSet c v marks marks′ → Marked n (held n letters lengths) marks′
+blank-marked n c size v letters lengths marks marks′ here inside told blank marked set =
     let S : List (List ℕ) = held n letters lengths in
     let empty : length (word bytes S c) ≡ 0 =
     rw (held-word n c letters lengths inside, length-take (getD lengths c 0) (drop (c * 64) letters)) (omega (arith, told, blank)) in
-    marked-more n S (λ a b. (a ≡ c) ⊎ (b ≡ c)) marks marks′ few marked added (λ k i hk hi p. elim p [
-      | inl q ↦ blank-changed S freely k i (rw q empty)
-      | inr q ↦ blank-other S freely k i (rw q empty)
+    marked-blank n c v S marks marks′ (here .few) marked set (λ k i p. elim p [
+      | inl q ↦ blank-changed S (here .freely) k i (rw q empty)
+      | inr q ↦ blank-other S (here .freely) k i (rw q empty)
     ])
 
 -- the slots before the one changed are now shortened by that one alone

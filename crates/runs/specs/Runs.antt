@@ -9,8 +9,8 @@ use Rattle.words.specs.Alphabet.{bytes}
 use Rattle.systems.specs.Moves.{Move}
 use Rattle.systems.specs.Rules.{next}
 use Rattle.moves.specs.Found.{FoundBelow, foundMove}
-use Rattle.moves.specs.Logs.{moveSize}
 use Rattle.moves.specs.declared.found.Found.{Found}
+use Rattle.moves.specs.Logs.{moveSize}
 
 -- neither rule applies
 abbrev pub isNone : Option Move → Bool

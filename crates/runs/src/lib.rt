@@ -13,9 +13,7 @@ ghost use Rattle.moves.specs.Logs.{logOf, logRecord, moveSize};
 ghost use Rattle.marks.specs.Marks.{Marked, Settled};
 ghost use Rattle.runs.specs.Runs.{FoundNext, isNone, roomFor, stopped};
 use half_ends::find_half_end;
-use marks::forget;
-use marks::mark_blank;
-use marks::mark_own;
+use marks::set_pairs;
 use moves::found::Found;
 use moves::found::Move;
 use moves::log::MOVE;
@@ -73,7 +71,7 @@ fn pass_blank(letters: &[u8], lengths: &[usize], n: usize, c: usize, marks: &mut
 {
     let size = length_of(lengths, c);
     if size == 0 {
-        mark_blank(marks, c);
+        set_pairs(marks, c, 1);
     }
 }
 
@@ -89,7 +87,7 @@ fn advance(letters: &mut [u8], lengths: &mut [usize], n: usize, step: Move, mark
 {
     let c = step.changed;
     make_move(letters, lengths, n, step);
-    forget(marks, c);
+    set_pairs(marks, c, 0);
     pass_blank(letters, lengths, n, c, marks);
 }
 
@@ -129,7 +127,6 @@ pub fn run(letters: &mut [u8], lengths: &mut [usize], n: usize, log: &mut [u8]) 
     ensures held { λ _. ⌜ Held n (now (letters .exit)) (now (lengths .exit)) ⌝ }
 {
     let mut marks = [0u8; 256];
-    mark_own(&mut marks);
     let first = find_move(letters, lengths, n, 0, &mut marks);
     run_from(letters, lengths, n, first, &mut marks, log)
 }

@@ -3,9 +3,9 @@ use Prim.Native.Nat.{ℕ}
 use mathlib.Core.Path.{_≡_, refl, ap, _∙_}
 use mathlib.Core.List.{List, [], _∷_}
 use Rattle.records.specs.declared.answers.Answer.{Answer}
-use Rattle.reduction.specs.declared.answers.Tested.{Tested}
-use Rattle.reduction.specs.declared.answers.Reduction.{Reduction}
 use Rattle.reduction.specs.Reduction.{testAnswer, reduceAnswer, reduceWords, reduceLog}
+use Rattle.reduction.specs.declared.answers.Reduction.{Reduction}
+use Rattle.reduction.specs.declared.answers.Tested.{Tested}
 use Rattle.reduction.specs.Meaning.{TestMeans, ReduceMeans}
 use Rattle.reduction.proofs.Meaning.{test-means, reduce-means}
 use Rattle.membership.specs.Membership.{memberAnswer, memberWords, memberLog, memberProduct}

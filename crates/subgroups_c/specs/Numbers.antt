@@ -6,8 +6,8 @@ use mathlib.Core.List.{List, [], _∷_}
 use lib.Dec.{eqb}
 use Rattle.records.specs.Answers.{verdictNumber, refusalNumber, refusalPlace}
 use Rattle.records.specs.declared.answers.Answer.{Answer}
-use Rattle.reduction.specs.declared.answers.Tested.{Tested}
 use Rattle.reduction.specs.declared.answers.Reduction.{Reduction}
+use Rattle.reduction.specs.declared.answers.Tested.{Tested}
 
 -- yes is 1 and no is 0
 abbrev pub oneOrZero : Bool → ℕ

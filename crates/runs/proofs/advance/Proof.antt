@@ -7,8 +7,8 @@ use Rattle.runs.proofs.advance.Tie as tie
 make-move-requires : tie.Need-make-move-requires
 make-move-requires c κs = search needs
 
-forget-requires : tie.Need-forget-requires
-forget-requires c κs = search needs
+set-pairs-requires : tie.Need-set-pairs-requires
+set-pairs-requires c κs = search needs
 
 pass-blank-requires : tie.Need-pass-blank-requires
 pass-blank-requires c κs = (search needs, (search needs, (search needs, search (advanced-marked, needs))))
@@ -30,7 +30,7 @@ advance-spec =
     tie.close
     (tie.spec
     make-move-requires
-    forget-requires
+    set-pairs-requires
     pass-blank-requires
     same-length
     same-length-2

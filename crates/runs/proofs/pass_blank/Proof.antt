@@ -7,8 +7,8 @@ use Rattle.runs.proofs.pass_blank.Tie as tie
 length-of-requires : tie.Need-length-of-requires
 length-of-requires c κs = search needs
 
-mark-blank-requires : tie.Need-mark-blank-requires
-mark-blank-requires c κs = search needs
+set-pairs-requires : tie.Need-set-pairs-requires
+set-pairs-requires c κs = search needs
 
 same-length : tie.Need-same-length
 same-length c = search needs
@@ -21,4 +21,4 @@ returns-2 c = search needs
 
 pub pass-blank-spec : {M : Type 1} → statement M
 pass-blank-spec =
-    tie.close (tie.spec length-of-requires mark-blank-requires same-length returns returns-2)
+    tie.close (tie.spec length-of-requires set-pairs-requires same-length returns returns-2)

@@ -1,21 +1,15 @@
 -- `runs::run` meets its contract.
 use borrow.Author.Needs.{needs}
-use Rattle.marks.proofs.Marking.{marked-none, marked-own, settled-none}
+use Rattle.marks.proofs.Marking.{marked-none, settled-none}
 use Rattle.runs.proofs.run.Statement.{statement}
 use Rattle.runs.proofs.run.Tie as tie
-
-slice-aggregate-mark-own : tie.Need-slice-aggregate-mark-own
-slice-aggregate-mark-own c = search needs
-
-mark-own-requires : tie.Need-mark-own-requires
-mark-own-requires c κs = search needs
 
 slice-aggregate-find-move : tie.Need-slice-aggregate-find-move
 slice-aggregate-find-move c = search needs
 
 find-move-requires : tie.Need-find-move-requires
 find-move-requires c κs =
-    (search needs, (search needs, (search needs, (search (marked-own, marked-none, needs), search (settled-none, needs)))))
+    (search needs, (search needs, (search needs, (search (marked-none, needs), search (settled-none, needs)))))
 
 slice-aggregate-run-from : tie.Need-slice-aggregate-run-from
 slice-aggregate-run-from c = search needs
@@ -39,8 +33,6 @@ pub run-spec : {M : Type 1} → statement M
 run-spec =
     tie.close
     (tie.spec
-    slice-aggregate-mark-own
-    mark-own-requires
     slice-aggregate-find-move
     find-move-requires
     slice-aggregate-run-from

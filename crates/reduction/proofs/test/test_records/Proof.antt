@@ -1,7 +1,7 @@
 -- `reduction::test::test_records` meets its contract.
 use borrow.Author.Needs.{needs}
 use Rattle.slots.proofs.Holding.{held-none}
-use Rattle.marks.proofs.Marking.{marked-none, marked-own, settled-none}
+use Rattle.marks.proofs.Marking.{marked-none, settled-none}
 use Rattle.reduction.proofs.Calls.{system-size-told, test-given, test-refused}
 use Rattle.reduction.proofs.test.test_records.Statement.{statement}
 use Rattle.reduction.proofs.test.test_records.Tie as tie
@@ -20,12 +20,6 @@ untested-requires c κs = search needs
 
 returns : tie.Need-returns
 returns c = search (test-refused, needs)
-
-slice-aggregate-mark-own : tie.Need-slice-aggregate-mark-own
-slice-aggregate-mark-own c = search needs
-
-mark-own-requires : tie.Need-mark-own-requires
-mark-own-requires c κs = search needs
 
 slice-aggregate-load : tie.Need-slice-aggregate-load
 slice-aggregate-load c = search needs
@@ -47,7 +41,7 @@ slice-aggregate-find-move-3 c = search needs
 
 find-move-requires : tie.Need-find-move-requires
 find-move-requires c κs =
-    (search needs, (search needs, (search needs, (search (marked-own, marked-none, needs), search (settled-none, needs)))))
+    (search needs, (search needs, (search needs, (search (marked-none, needs), search (settled-none, needs)))))
 
 is-nothing-requires : tie.Need-is-nothing-requires
 is-nothing-requires c κs = search needs
@@ -64,8 +58,6 @@ test-records-spec =
     enum-told-2
     untested-requires
     returns
-    slice-aggregate-mark-own
-    mark-own-requires
     slice-aggregate-load
     slice-aggregate-load-2
     load-requires

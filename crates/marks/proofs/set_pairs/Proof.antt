@@ -1,21 +1,21 @@
--- `marks::forget` meets its contract.
+-- `marks::set_pairs` meets its contract.
 use Prim.Native.Nat.{_≤_, _-_}
 use mathlib.Core.Path.{_≡_}
 use native.Mathlib.Omega.{arith}
 use lib.ListN.{length, length-set}
 use borrow.Author.Needs.{needs}
-use Rattle.marks.proofs.Marking.{Forgot, forgot-begin, forgot-more, forgot-all}
-use Rattle.marks.proofs.forget.Statement.{statement}
-use Rattle.marks.proofs.forget.Tie as tie
+use Rattle.marks.proofs.Marking.{SetTo, set-all, set-begin, set-more}
+use Rattle.marks.proofs.set_pairs.Statement.{statement}
+use Rattle.marks.proofs.set_pairs.Tie as tie
 
 abbrev Inv-loop : tie.InvT-loop
-Inv-loop marks₀ c j₀ marks j = (j ≤ 16) × (length marks ≡ 256) × Forgot c j marks₀ marks
+Inv-loop marks₀ c value j₀ marks j = (j ≤ 16) × (length marks ≡ 256) × SetTo c value j marks₀ marks
 
 abbrev μ-loop : tie.MeasureT-loop
-μ-loop marks₀ c j₀ marks j = 16 - j
+μ-loop marks₀ c value j₀ marks j = 16 - j
 
 loop-holds : tie.Need-loop-holds Inv-loop μ-loop
-loop-holds c = (search needs, search needs, forgot-begin (c .args .c) (c .args .marks .now))
+loop-holds c = (search needs, search needs, set-begin (c .args .c) (c .args .value) (c .args .marks .now))
 
 mul-first : tie.Need-mul-first Inv-loop μ-loop
 mul-first c = search needs
@@ -42,25 +42,16 @@ loop-less : tie.Need-loop-less Inv-loop μ-loop
 loop-less c = search needs
 
 loop-again : tie.Need-loop-again Inv-loop μ-loop
-loop-again c = search (forgot-more, needs)
-
-mul-marks : tie.Need-mul-marks Inv-loop μ-loop
-mul-marks c = search needs
-
-add-marks : tie.Need-add-marks Inv-loop μ-loop
-add-marks c = search needs
-
-slice-write-marks-3 : tie.Need-slice-write-marks-3 Inv-loop μ-loop
-slice-write-marks-3 c = search needs
+loop-again c = search (set-more, needs)
 
 same-length : tie.Need-same-length Inv-loop μ-loop
-same-length c = simp length-set (search needs)
+same-length c = search needs
 
 returns : tie.Need-returns Inv-loop μ-loop
-returns c = search (forgot-all, needs)
+returns c = search (set-all, needs)
 
-pub forget-spec : {M : Type 1} → statement M
-forget-spec =
+pub set-pairs-spec : {M : Type 1} → statement M
+set-pairs-spec =
     tie.close
     (tie.spec
     Inv-loop
@@ -75,8 +66,5 @@ forget-spec =
     add-j
     loop-less
     loop-again
-    mul-marks
-    add-marks
-    slice-write-marks-3
     same-length
     returns)
