@@ -22,12 +22,6 @@ told-false {t} e h = sym e ∙ not-true t h
 pub told-true : {t : Bool} {u : Bool} → t ≡ u → not t ≡ false → u ≡ true
 told-true {t} e h = sym e ∙ not-false t h
 
-pub not-told-true : {t : Bool} {u : Bool} → t ≡ u → t ≡ true → not u ≡ false
-not-told-true e h = rw (← e, h)
-
-pub not-told-false : {t : Bool} {u : Bool} → t ≡ u → t ≡ false → not u ≡ true
-not-told-false e h = rw (← e, h)
-
 -- a chain of tests: the first that fails decides, and where one is passed the rest does
 pub then-failed : {r : Checked} (c d : Checked) {f : Refusal} → r ≡ c → r ≡ Failed f → r ≡ c andThen d
 then-failed c d e h = rw (← e, h)

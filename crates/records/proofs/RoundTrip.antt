@@ -6,7 +6,7 @@ use mathlib.Core.List.{List, [], _++_, _∷_, append-assoc}
 use mathlib.Core.Path.{_∙_, _≡_, ap, refl, sym}
 use native.Mathlib.Decide.{decLt}
 use native.Mathlib.Omega.{arith}
-use lib.ListN.{getD, getD-replicate, length, length-append, length-replicate, length-take, take}
+use lib.ListN.{getD, length, length-append, length-replicate, length-take, take}
 use lib.Seq.{getD-at, take-at}
 use borrow.Author.Tests.{lt-ltb, ltb-true, ne-eqb}
 use Rattle.words.specs.Alphabet.{bytes, flipByte}
@@ -14,12 +14,11 @@ use Rattle.words.specs.Words.{freelyReduce, inverse, push}
 use Rattle.words.proofs.Alphabet.{byteLaws, flip-down, flip-up, same?}
 use Rattle.words.proofs.FreeReduction.{push-cancel, push-keep}
 use Rattle.words.proofs.Inverse.{inverse-cons, inverse-nil}
-use Rattle.records.specs.Plain.{Blank, Plain}
 use Rattle.records.specs.Records.{beforeStop, blanks, isLetter, isLetterOrStop, isStop, recordOf, wordOf}
-use Rattle.records.specs.Refusals.{_andThen_, byteRule, endRule, must, orderRule, recordRules}
+use Rattle.records.specs.Refusals.{byteRule, endRule, lettersRule, must, orderRule, recordRules}
 use Rattle.records.specs.declared.answers.Checked.the-variants.{Fine}
 use Rattle.records.proofs.Chains.{fine-first, fine-next, must-fine}
-use Rattle.records.proofs.Rules.{blank-stops, letter-above, letter-below, letter-between, record-plain}
+use Rattle.records.proofs.Rules.{letter-above, letter-below, letter-between, letter-left, letter-passed, record-rest}
 
 -- a word of letters alone
 abbrev pub AllLetters : List ℕ → Type 0
@@ -92,14 +91,6 @@ before-length (b ∷ r) = go (isStop b) refl (before-length r)
 pub word-short : (r : List ℕ) → length (wordOf r) ≤ 63
 word-short r = omega (arith, before-length (take 63 r), length-take 63 r)
 
--- a byte that passes rule 4 and is no full stop is a letter
-letter-left : (b : ℕ) → isLetterOrStop b ≡ true → isStop b ≡ false → isLetter b ≡ true
-letter-left b e h = go (isLetter b) refl
-  where
-    go : (t : Bool) → isLetter b ≡ t → isLetter b ≡ true
-    go true p = p
-    go false p = absurd (true≢false (sym e ∙ rw (p, h)))
-
 before-letters : (r : List ℕ) (at : ℕ) → byteRule r at ≡ Fine → AllLetters (beforeStop r)
 before-letters [] at e = tt
 before-letters (b ∷ r) at e =
@@ -114,11 +105,9 @@ before-letters (b ∷ r) at e =
 
 -- the word of a record that passes its tests is made of letters alone
 pub record-letters : (r : List ℕ) (at : ℕ) → recordRules r at ≡ Fine → AllLetters (wordOf r)
-unfolding recordRules
+unfolding recordRules lettersRule
 record-letters r at e =
-    before-letters (take 63 r) at
-    (fine-first (byteRule (take 63 r) at) (orderRule (take 63 r) at)
-    (fine-next (endRule r at) (byteRule (take 63 r) at andThen orderRule (take 63 r) at) e))
+    before-letters (take 63 r) at (fine-first (byteRule (take 63 r) at) (orderRule (take 63 r) at) (fine-next (endRule r at) _ e))
 
 -- a word of letters before full stops
 before-blanks : (n : ℕ) → beforeStop (blanks n) ≡ []
@@ -129,13 +118,18 @@ before-back : (w : List ℕ) (n : ℕ) → AllLetters w → beforeStop (w ++ bla
 before-back [] n a = before-blanks n
 before-back (b ∷ w) n a = rw (letter-unstopped b a.0, before-back w n a.1)
 
-word-plain : (w : List ℕ) (n : ℕ) → AllLetters w → Plain (w ++ blanks n)
-word-plain [] n a at =
-    let blank : Blank (blanks n) = blank-stops (blanks n) (λ k h. getD-replicate n k 46 0 (rw (length-replicate {A = ℕ} n 46) at h)) in
-    (blank at .0, blank at .2)
-word-plain (b ∷ w) n a at =
-    let rest : Plain (w ++ blanks n) = word-plain w n a.1 in
-    (rw a.0 (rest (at + 1) .0), rw (letter-unstopped b a.0) (rest (at + 1) .1))
+stops-passed : (n at : ℕ) → lettersRule (blanks n) at ≡ Fine
+unfolding lettersRule
+stops-passed zero at = refl
+stops-passed (suc n) at = go n at
+  where
+    go : (n at : ℕ) → lettersRule (blanks (suc n)) at ≡ Fine
+    go zero at = refl
+    go (suc n) at = go n (at + 1)
+
+word-passed : (w : List ℕ) (n at : ℕ) → AllLetters w → lettersRule (w ++ blanks n) at ≡ Fine
+word-passed [] n at a = stops-passed n at
+word-passed (b ∷ w) n at a = letter-passed b (w ++ blanks n) at a.0 ∙ word-passed w n (at + 1) a.1
 
 -- one word, written as a record and read back
 module _ (w : List ℕ) (short : length w ≤ 63) where
@@ -152,4 +146,4 @@ module _ (w : List ℕ) (short : length w ≤ 63) where
   word-back a = ap beforeStop record-filled ∙ before-back w (63 - length w) a
 
   pub record-passes : (at : ℕ) → AllLetters w → recordRules (recordOf w) at ≡ Fine
-  record-passes at a = sym (record-plain {r = true} (recordOf w) at record-feed (λ t. rw record-filled (word-plain w (63 - length w) a)) refl)
+  record-passes at a = sym (record-rest (recordOf w) at record-feed (sym (rw record-filled (word-passed w (63 - length w) at a))))

@@ -1,25 +1,24 @@
 -- The tests of document 01 on lists of bytes, as loops make them: the answer of the whole is the answer from the present place on.
-use Prim.Native.Nat.{_%_, _+_, _-_, _<_, _≤_, suc, ℕ}
+use Prim.Native.Nat.{_%_, _+_, _-_, _<_, _≤_, ℕ}
 use mathlib.Core.Bool.{Bool, false, not, true, true≢false}
 use mathlib.Core.List.{List, [], _++_, _∷_, append-assoc, append-nil}
 use mathlib.Core.Path.{_∙_, _≡_, ap, refl, sym}
-use native.Mathlib.Decide.{decLt}
+use native.Mathlib.Decide.{decLt, ℕ-discrete}
 use native.Mathlib.Nat.{add-assoc, add-zero, le-antisymm, le-of-eq}
 use native.Mathlib.Numerals.{add-one}
 use native.Mathlib.Omega.{arith}
 use lib.Dec.{ltb}
 use lib.ListN.{drop, drop-of-length-le, getD, length, length-drop, take}
-use lib.Seq.{getD-take, length-take-le, take-all, take-suc}
-use borrow.Author.Count.{below-more}
+use lib.Seq.{getD-drop, getD-take, length-take-le, take-suc}
 use borrow.Author.Tests.{eq-eqb, le-leb, le-ltb, lt-leb, lt-ltb, ne-eqb}
-use Rattle.words.proofs.Buffers.{drop-here}
-use Rattle.records.specs.Plain.{Blank, Plain}
+use Rattle.words.proofs.Buffers.{drop-here, rest-part}
 use Rattle.records.specs.Records.{beforeStop, isLetter, isLetterOrStop, isStop, notLetter, wordOf}
-use Rattle.records.specs.Refusals.{byteRule, eachByte, orderRule, recordRules, refusal}
+use Rattle.records.specs.Refusals.{byteRule, eachByte, lettersRule, must, recordRules, refusal}
+use Rattle.records.specs.Stops.{stopsRule}
 use Rattle.records.specs.declared.answers.Checked.{Checked}
 use Rattle.records.specs.declared.answers.Checked.the-variants.{Failed, Fine}
 use Rattle.records.specs.declared.answers.Refusal.{Refusal}
-use Rattle.records.proofs.Chains.{then-failed, then-fine, told-true}
+use Rattle.records.proofs.Chains.{fine-first, must-fine, then-failed, then-fine, told-false, told-true}
 
 -- a byte is a letter or not, by where it stands
 module _ (b : ℕ) where
@@ -44,6 +43,14 @@ module _ (b : ℕ) where
   pub stop-or-not : {t : Bool} → t ≡ isLetter b → t ≡ false → isStop b ≡ isLetterOrStop b
   stop-or-not e h = rw (← e, h)
 
+  -- a byte that passes rule 4 and is no full stop is a letter
+  pub letter-left : isLetterOrStop b ≡ true → isStop b ≡ false → isLetter b ≡ true
+  letter-left e h = go (isLetter b) refl
+    where
+      go : (t : Bool) → isLetter b ≡ t → isLetter b ≡ true
+      go true p = p
+      go false p = absurd (true≢false (sym e ∙ rw (p, h)))
+
 -- one more byte of a list, at the place after it
 next-place : (at i : ℕ) → at + i + 1 ≡ at + (i + 1)
 next-place at i = add-assoc at i 1
@@ -64,26 +71,82 @@ module _ (test : ℕ → Bool) (n : ℕ) (s : List ℕ) (at : ℕ) where
       pub bytes-pass : test (getD s i 0) ≡ true → eachByte test n s at ≡ eachByte test n (drop (i + 1) s) (at + (i + 1))
       bytes-pass good = rw (here, drop-here s i inside, good, next-place)
 
--- what is left of a list from a place on, as a part that is handed on
-part-is-rest : (s : List ℕ) (k : ℕ) → take (length s - k) (drop k s) ≡ drop k s
-part-is-rest s k = take-all (length s - k) (drop k s) (le-of-eq (length-drop k s))
+-- a letter decides neither rule
+pub letter-passed : (b : ℕ) (r : List ℕ) (at : ℕ) → isLetter b ≡ true → lettersRule (b ∷ r) at ≡ lettersRule r (at + 1)
+unfolding lettersRule
+letter-passed b r at e = rw (e, ne-eqb b 46 (λ h. true≢false (sym e ∙ ap isLetter h)))
 
--- no letter after the first full stop
+-- where no letter begins them, the bytes are judged as after the letters
+no-letter : (r : List ℕ) (at : ℕ) → isLetter (getD r 0 0) ≡ false → stopsRule r at ≡ lettersRule r at
+unfolding lettersRule stopsRule
+no-letter [] at e = refl
+no-letter (b ∷ r) at e = elim (ℕ-discrete b 46) [ yes s ↦ rw s | no n ↦ rw (e, ne-eqb b 46 n) ]
+
+stop-passed : (b : ℕ) (r : List ℕ) (at : ℕ) → b ≡ 46 → stopsRule (b ∷ r) at ≡ stopsRule r (at + 1)
+unfolding stopsRule
+stop-passed b r at e = rw e
+
+first-of : (s : List ℕ) (i : ℕ) → getD (take (length s - i) (drop i s)) 0 0 ≡ getD s i 0
+first-of s i = ap (λ (r : List ℕ). getD r 0 0) (rest-part s i) ∙ getD-drop i s 0 0 ∙ ap (λ (k : ℕ). getD s k 0) (add-zero i)
+
+-- the letters, then the full stops, each with what is left of the bytes
 module _ (s : List ℕ) (at : ℕ) where
-  pub order-begin : orderRule s at ≡ orderRule (drop 0 s) (at + 0)
-  order-begin = rw add-zero
+  pub letters-begin : lettersRule s at ≡ lettersRule (drop 0 s) (at + 0)
+  letters-begin = rw add-zero
 
-  module _ (i : ℕ) (here : orderRule s at ≡ orderRule (drop i s) (at + i)) where
-    pub order-end : length s ≤ i → Fine ≡ orderRule s at
-    order-end l = rw (here, drop-of-length-le s l)
+  pub stops-begin : stopsRule s at ≡ stopsRule (drop 0 s) (at + 0)
+  stops-begin = rw add-zero
 
-    module _ (inside : i < length s) where
-      pub order-stop : {r : Checked} → getD s i 0 ≡ 46
-          → r ≡ eachByte notLetter 5 (take (length s - (i + 1)) (drop (i + 1) s)) (at + (i + 1)) → r ≡ orderRule s at
-      order-stop stop e = rw (here, drop-here s i inside, eq-eqb _ _ stop, next-place, e, part-is-rest)
+  module _ (i : ℕ) (here : lettersRule s at ≡ lettersRule (drop i s) (at + i)) where
+    pub letters-end : length s ≤ i → Fine ≡ lettersRule s at
+    unfolding lettersRule
+    letters-end l = rw (here, drop-of-length-le s l)
 
-      pub order-letter : (getD s i 0 ≡ 46 → ⊥) → orderRule s at ≡ orderRule (drop (i + 1) s) (at + (i + 1))
-      order-letter no-stop = rw (here, drop-here s i inside, ne-eqb _ _ no-stop, next-place)
+    module _ {t : Bool} (told : t ≡ isLetter (getD s i 0)) where
+      pub letters-more : i < length s → not t ≡ false → lettersRule s at ≡ lettersRule (drop (i + 1) s) (at + (i + 1))
+      letters-more inside e =
+          here ∙ ap (λ (r : List ℕ). lettersRule r (at + i)) (drop-here s i inside)
+          ∙ letter-passed (getD s i 0) (drop (i + 1) s) (at + i) (told-true told e) ∙ ap (lettersRule (drop (i + 1) s)) (next-place at i)
+
+      pub letters-stop : {r : Checked} → not t ≡ true → r ≡ stopsRule (take (length s - i) (drop i s)) (at + i) → r ≡ lettersRule s at
+      letters-stop e h =
+          h ∙ no-letter (take (length s - i) (drop i s)) (at + i) (ap isLetter (first-of s i) ∙ told-false told e)
+          ∙ ap (λ (l : List ℕ). lettersRule l (at + i)) (rest-part s i) ∙ sym here
+
+  module _ (i : ℕ) (here : stopsRule s at ≡ stopsRule (drop i s) (at + i)) where
+    pub stops-end : length s ≤ i → Fine ≡ stopsRule s at
+    unfolding stopsRule
+    stops-end l = rw (here, drop-of-length-le s l)
+
+    pub stops-more : i < length s → getD s i 0 ≡ 46 → stopsRule s at ≡ stopsRule (drop (i + 1) s) (at + (i + 1))
+    stops-more inside e =
+        here ∙ ap (λ (r : List ℕ). stopsRule r (at + i)) (drop-here s i inside)
+        ∙ stop-passed (getD s i 0) (drop (i + 1) s) (at + i) e ∙ ap (stopsRule (drop (i + 1) s)) (next-place at i)
+
+    pub stops-rest : {r : Checked} → r ≡ stopsRule (take (length s - i) (drop i s)) (at + i) → r ≡ stopsRule s at
+    stops-rest h = h ∙ ap (λ (l : List ℕ). stopsRule l (at + i)) (rest-part s i) ∙ sym here
+
+-- a byte that is no full stop is left
+pub rest-first : (s : List ℕ) (i : ℕ) → (getD s i 0 ≡ 46 → ⊥) → getD (take (length s - i) (drop i s)) 0 0 ≡ 46 → ⊥
+rest-first s i n e = n (sym (first-of s i) ∙ e)
+
+pub rest-filled : (s : List ℕ) (i : ℕ) → i < length s → 0 < length (take (length s - i) (drop i s))
+rest-filled s i inside = rw (rest-part s i, length-drop i s) (omega arith)
+
+module _ (s : List ℕ) (at : ℕ) where
+  pub rest-bytes : {x : Checked} {f : Refusal} → x ≡ byteRule s at → x ≡ Failed f → x ≡ stopsRule s at
+  unfolding stopsRule
+  rest-bytes e h = then-failed _ _ e h
+
+  pub rest-letter : {q x : Checked} → (getD s 0 0 ≡ 46 → ⊥) → 0 < length s → q ≡ byteRule s at → q ≡ Fine → x ≡ refusal 5 at → x ≡ stopsRule s at
+  unfolding stopsRule
+  rest-letter n filled e h told = then-fine _ _ e h (told ∙ sym (first-letter s n filled (sym e ∙ h)))
+    where
+      first-letter : (r : List ℕ) → (getD r 0 0 ≡ 46 → ⊥) → 0 < length r → byteRule r at ≡ Fine → eachByte notLetter 5 r at ≡ refusal 5 at
+      first-letter [] n filled fine = absurd (omega arith)
+      first-letter (b ∷ r) n filled fine =
+          let good : isLetterOrStop b ≡ true = must-fine (isLetterOrStop b) 4 at (fine-first (must (isLetterOrStop b) 4 at) _ fine) in
+          rw (letter-left b good (ne-eqb b 46 n))
 
 -- a list with no full stop among its first n bytes
 all-letters : (n i : ℕ) (r : List ℕ) {w : List ℕ} → n ≤ i → i ≤ n → n ≤ length r
@@ -112,56 +175,6 @@ module _ (r : List ℕ) (at : ℕ) where
   unfolding recordRules
   record-end bad e = rw (ne-eqb _ _ bad, e)
 
-  module _ (ended : getD r 63 0 ≡ 10) where
-    pub record-bytes : {x : Checked} {f : Refusal} → x ≡ byteRule (take 63 r) at → x ≡ Failed f → x ≡ recordRules r at
-    unfolding recordRules
-    record-bytes e h = rw (eq-eqb _ _ ended) (then-failed _ _ e h)
-
-    pub record-order : {q x : Checked} → q ≡ byteRule (take 63 r) at → q ≡ Fine → x ≡ orderRule (take 63 r) at → x ≡ recordRules r at
-    unfolding recordRules
-    record-order e h k = rw (eq-eqb _ _ ended) (then-fine _ _ e h k)
-
--- a record that breaks no rule, the quick way
-letter-no-stop : (b : ℕ) → isLetter b ≡ true → b ≡ 46 → ⊥
-letter-no-stop b e h = true≢false (sym e ∙ ap isLetter h)
-
--- what is left of a list decides rules 4 and 5, wherever the list stands
-abbrev pub Resumes : List ℕ → ℕ → Type 0
-Resumes s i = (at : ℕ) → (byteRule s at ≡ byteRule (drop i s) (at + i)) × (orderRule s at ≡ orderRule (drop i s) (at + i))
-
-pub resumes-begin : (s : List ℕ) → Resumes s 0
-resumes-begin s at = (bytes-begin isLetterOrStop 4 s at, order-begin s at)
-
-pub resumes-letter : (s : List ℕ) (i : ℕ) → Resumes s i → i < length s → {t : Bool} → t ≡ isLetter (getD s i 0) → not t ≡ false → Resumes s (i + 1)
-resumes-letter s i here inside {t} e h at =
-    let letter : isLetter (getD s i 0) ≡ true = told-true e h in (
-      bytes-pass isLetterOrStop 4 s at i (here at .0) inside (rw letter),
-      order-letter s at i (here at .1) inside (letter-no-stop (getD s i 0) letter),
-    )
-
-pub resumes-blank : (s : List ℕ) (i : ℕ) → Resumes s i → {r : Bool} → (r ≡ true → Blank (take (length s - i) (drop i s))) → r ≡ true → Plain s
-resumes-blank s i here told e at =
-    let rest : Blank (drop i s) = rw (part-is-rest s i) at (told e) in
-    (here at .0 ∙ rest (at + i) .0, here at .1 ∙ rest (at + i) .2)
-
-pub resumes-end : (s : List ℕ) (i : ℕ) → Resumes s i → length s ≤ i → Plain s
-resumes-end s i here l at =
-    (sym (bytes-end isLetterOrStop 4 s at i (here at .0) l), sym (order-end s at i (here at .1) l))
-
--- a list of full stops
-pub blank-stops : (s : List ℕ) → ((k : ℕ) → k < length s → getD s k 0 ≡ 46) → Blank s
-blank-stops [] all at = (refl, refl, refl)
-blank-stops (b ∷ s) all at =
-    let rest : Blank s = blank-stops s (λ k h. all (suc k) (omega arith)) in
-    let stop : b ≡ 46 = all 0 (omega arith) in
-    (rw stop (rest (at + 1) .0), rw stop (rest (at + 1) .1), rw stop (rest (at + 1) .1))
-
-pub stops-more : (s : List ℕ) (i : ℕ) → ((k : ℕ) → k < i → getD s k 0 ≡ 46) → getD s i 0 ≡ 46 → (k : ℕ) → k < i + 1 → getD s k 0 ≡ 46
-stops-more s i all here = below-more (λ (k : ℕ). getD s k 0 ≡ 46) i all here
-
-pub blank-until : (s : List ℕ) (i : ℕ) → ((k : ℕ) → k < i → getD s k 0 ≡ 46) → length s ≤ i → Blank s
-blank-until s i all l = blank-stops s (λ k h. all k (omega arith))
-
-pub record-plain : {r : Bool} (s : List ℕ) (at : ℕ) → getD s 63 0 ≡ 10 → (r ≡ true → Plain (take 63 s)) → r ≡ true → Fine ≡ recordRules s at
-unfolding recordRules
-record-plain s at ended told e = rw (eq-eqb _ _ ended, told e at .0, told e at .1)
+  pub record-rest : {x : Checked} → getD r 63 0 ≡ 10 → x ≡ lettersRule (take (63 - 0) r) at → x ≡ recordRules r at
+  unfolding recordRules
+  record-rest ended e = rw (eq-eqb _ _ ended) e

@@ -1,4 +1,4 @@
 pub mod Records
 pub mod Answers
 pub mod Refusals
-pub mod Plain
+pub mod Stops

@@ -46,9 +46,13 @@ abbrev pub orderRule : List ℕ → ℕ → Checked
 orderRule [] at = Fine
 orderRule (b ∷ r) at = cond (isStop b) (eachByte notLetter 5 r (at + 1)) (orderRule r (at + 1))
 
+-- 4, then 5, on the bytes before the line feed
+unfoldable pub lettersRule : List ℕ → ℕ → Checked
+lettersRule r at = byteRule r at andThen orderRule r at
+
 -- rules 3 to 5 on a record whose first byte stands at a place of its buffer, "in this order within a record"
 unfoldable pub recordRules : List ℕ → ℕ → Checked
-recordRules r at = endRule r at andThen byteRule (take 63 r) at andThen orderRule (take 63 r) at
+recordRules r at = endRule r at andThen lettersRule (take 63 r) at
 
 -- a refusal of a record, as refusal 6
 abbrev pub asSix : Checked → Checked

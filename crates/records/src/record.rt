@@ -1,12 +1,11 @@
 // One record of 64 bytes: its layout, the word in it, and a word written as its record.
-ghost use Prim.Native.Nat.{_≤_};
-ghost use mathlib.Core.Bool.{true};
+ghost use Prim.Native.Nat.{_<_, _≤_};
 ghost use mathlib.Core.Path.{_≡_};
-ghost use lib.ListN.{length, take};
+ghost use lib.ListN.{getD, length, take};
 ghost use Rattle.words.specs.Alphabet.{bytes};
-ghost use Rattle.records.specs.Plain.{Blank, Plain};
-ghost use Rattle.records.specs.Records.{blanks, isLetter, isLetterOrStop, notLetter, recordOf, wordOf};
-ghost use Rattle.records.specs.Refusals.{eachByte, orderRule, recordRules, targetRules};
+ghost use Rattle.records.specs.Records.{blanks, isLetter, isLetterOrStop, recordOf, wordOf};
+ghost use Rattle.records.specs.Refusals.{byteRule, lettersRule, recordRules, targetRules};
+ghost use Rattle.records.specs.Stops.{stopsRule};
 use crate::answers::Checked;
 use crate::answers::refuse;
 use words::letters::copy;
@@ -48,16 +47,7 @@ pub fn check_record(bytes: &[u8], at: usize) -> Checked
     if bytes[63] != LINE_FEED {
         return refuse(3, at + 63);
     }
-    let letters = &bytes[0..63];
-    let plain = is_plain(letters);
-    if plain {
-        return Checked::Fine;
-    }
-    let checked = check_bytes(letters, at);
-    let Checked::Fine = checked else {
-        return checked;
-    };
-    check_order(letters, at)
+    check_letters(&bytes[0..63], at)
 }
 
 // Refusal 6.
@@ -74,82 +64,64 @@ pub fn check_target(target: &[u8]) -> Checked
     refuse(6, refusal.place)
 }
 
-// Whether a list is letters and then full stops: the quick way through a record that breaks no rule.
-fn is_plain(letters: &[u8]) -> bool
-    ensures { λ r. ⌜ (r ≡ true → Plain (now (letters .entry))) ⌝ }
+// Refusals 4 and 5 on the bytes before the line feed: first the letters.
+fn check_letters(letters: &[u8], at: usize) -> Checked
+    requires { ⌜ length (now letters) ≤ 64 ⌝ }
+    requires { ⌜ at ≤ 4096 ⌝ }
+    ensures { λ r. ⌜ r ≡ lettersRule (now (letters .entry)) at ⌝ }
 {
     let mut i = 0;
     while i < letters.len() {
         let letter = is_letter(letters[i]);
         if !letter {
-            return is_blank(&letters[i..]);
+            return check_stops(&letters[i..], at + i);
         }
         i += 1;
     }
-    true
+    Checked::Fine
 }
 
-// Whether a list is full stops alone.
-fn is_blank(bytes: &[u8]) -> bool
-    ensures { λ r. ⌜ (r ≡ true → Blank (now (bytes .entry))) ⌝ }
+// Then the full stops.
+fn check_stops(bytes: &[u8], at: usize) -> Checked
+    requires { ⌜ length (now bytes) ≤ 64 ⌝ }
+    requires { ⌜ at ≤ 8192 ⌝ }
+    ensures { λ r. ⌜ r ≡ stopsRule (now (bytes .entry)) at ⌝ }
 {
     let mut i = 0;
     while i < bytes.len() {
         if bytes[i] != STOP {
-            return false;
+            return check_rest(&bytes[i..], at + i);
         }
         i += 1;
     }
-    true
+    Checked::Fine
+}
+
+// What comes after them breaks a rule: 4 where a byte is neither a letter nor a full stop, or else 5 at the first.
+fn check_rest(bytes: &[u8], at: usize) -> Checked
+    requires { ⌜ (length (now bytes) ≤ 64) × (at ≤ 16384) ⌝ }
+    requires { ⌜ (getD (now bytes) 0 0 ≡ 46 → ⊥) × (0 < length (now bytes)) ⌝ }
+    ensures { λ r. ⌜ r ≡ stopsRule (now (bytes .entry)) at ⌝ }
+{
+    let checked = check_bytes(bytes, at);
+    let Checked::Fine = checked else {
+        return checked;
+    };
+    refuse(5, at)
 }
 
 // Refusal 4: every byte is a letter or a full stop.
-fn check_bytes(letters: &[u8], at: usize) -> Checked
-    requires { ⌜ length (now letters) ≤ 64 ⌝ }
-    requires { ⌜ at ≤ 4096 ⌝ }
-    ensures { λ r. ⌜ r ≡ eachByte isLetterOrStop 4 (now (letters .entry)) at ⌝ }
-{
-    let mut i = 0;
-    while i < letters.len() {
-        let fine = is_letter_or_stop(letters[i]);
-        if !fine {
-            let place = at + i;
-            return refuse(4, place);
-        }
-        i += 1;
-    }
-    Checked::Fine
-}
-
-// Refusal 5: no letter stands after a full stop.
-fn check_order(letters: &[u8], at: usize) -> Checked
-    requires { ⌜ length (now letters) ≤ 64 ⌝ }
-    requires { ⌜ at ≤ 4096 ⌝ }
-    ensures { λ r. ⌜ r ≡ orderRule (now (letters .entry)) at ⌝ }
-{
-    let mut i = 0;
-    while i < letters.len() {
-        if letters[i] == STOP {
-            let next = i + 1;
-            return check_blank(&letters[next..], at + next);
-        }
-        i += 1;
-    }
-    Checked::Fine
-}
-
-// Refusal 5, after the first full stop.
-fn check_blank(bytes: &[u8], at: usize) -> Checked
+fn check_bytes(bytes: &[u8], at: usize) -> Checked
     requires { ⌜ length (now bytes) ≤ 64 ⌝ }
-    requires { ⌜ at ≤ 8192 ⌝ }
-    ensures { λ r. ⌜ r ≡ eachByte notLetter 5 (now (bytes .entry)) at ⌝ }
+    requires { ⌜ at ≤ 16384 ⌝ }
+    ensures { λ r. ⌜ r ≡ byteRule (now (bytes .entry)) at ⌝ }
 {
     let mut i = 0;
     while i < bytes.len() {
-        let letter = is_letter(bytes[i]);
-        if letter {
+        let fine = is_letter_or_stop(bytes[i]);
+        if !fine {
             let place = at + i;
-            return refuse(5, place);
+            return refuse(4, place);
         }
         i += 1;
     }

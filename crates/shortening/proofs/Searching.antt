@@ -1,5 +1,5 @@
 -- The search for a shortening move over words held in arrays: three nested loops, the pair of slots and the form in the order of document
--- 01, and what is known of the pairs that were tried in vain. One law for each turn and each way out.
+-- 01, and what is known of the pairs that were tried and failed. One law for each turn and each way out.
 use Prim.Native.Nat.{_*_, _+_, _-_, _<_, _≤_, max, suc, zero, ℕ}
 use mathlib.Core.Bool.{Bool, false, true}
 use mathlib.Core.List.{List}
@@ -20,7 +20,7 @@ use Rattle.systems.specs.Products.{FreelyReduced, word}
 use Rattle.systems.specs.Rules.{first, formAt, shortening, tryChanged, tryForm, tryOther}
 use Rattle.systems.proofs.Searching.{first-more-one, first-nowhere}
 use Rattle.systems.proofs.Shortening.{formed-shorter, other-missed, other-same, seam-le-changed, seam-le-other, shortening-found, try-not-shorter, try-shorter}
-use Rattle.slots.specs.Held.{Short, held, heldWord}
+use Rattle.slots.specs.Held.{Held, held, heldWord}
 use Rattle.slots.proofs.Holding.{held-length, held-word}
 use Rattle.moves.specs.Found.{FoundBelow, foundMove}
 use Rattle.moves.specs.declared.found.Found.{Found}
@@ -100,12 +100,8 @@ pair-back S k i most freely told half =
 
 -- the words and what is known of the pairs as a search is given them
 pub record Ready (letters lengths marks : List ℕ) (n last : ℕ) : Type 0 where
-  pub few : n ≤ 16
+  pub here : Held n letters lengths
   pub last-within : last ≤ n - 1
-  pub wide : length letters ≡ 1024
-  pub counted : length lengths ≡ 16
-  pub short : Short lengths
-  pub freely : FreelyReduced bytes (held n letters lengths)
   pub long : length marks ≡ 256
   pub marked : Marked n (held n letters lengths) marks
   pub settled : Settled n (held n letters lengths) last
@@ -134,22 +130,11 @@ pub record Forms (letters lengths marks : List ℕ) (n last k i end form most : 
   pub before-form : first (λ j. tryForm bytes (held n letters lengths) k i (formAt j)) form ≡ none
   pub counts : (j : ℕ) → j < form → seam bytes (formAt j) (heldWord letters lengths i) (heldWord letters lengths k) ≤ most
 
-pub changed-begin : (letters lengths marks : List ℕ) (n last : ℕ) → n ≤ 16 → last ≤ n - 1 → length letters ≡ 1024 → length lengths ≡ 16
-    → Short lengths → FreelyReduced bytes (held n letters lengths) → length marks ≡ 256 → Marked n (held n letters lengths) marks
-    → Settled n (held n letters lengths) last → Changed letters lengths marks n last 0 Nothing
-changed-begin letters lengths marks n last few last-within wide counted short freely long marked settled =
+pub changed-begin : (letters lengths marks : List ℕ) (n last : ℕ) → Held n letters lengths → last ≤ n - 1 → length marks ≡ 256
+    → Marked n (held n letters lengths) marks → Settled n (held n letters lengths) last → Changed letters lengths marks n last 0 Nothing
+changed-begin letters lengths marks n last here last-within long marked settled =
     record {
-      ready = record {
-        few = few;
-        last-within = last-within;
-        wide = wide;
-        counted = counted;
-        short = short;
-        freely = freely;
-        long = long;
-        marked = marked;
-        settled = settled;
-      };
+      ready = record { here = here; last-within = last-within; long = long; marked = marked; settled = settled };
       nothing = refl;
       k-within = omega arith;
       before-k = refl;
@@ -255,16 +240,16 @@ module _ (letters lengths marks : List ℕ) (n last k : ℕ) (found : Found) whe
 
       back-missed : 4 ≤ form → 2 * most ≤ length (heldWord letters lengths k) → tryOther bytes (held n letters lengths) i k ≡ none
       back-missed h half =
-          pair-back (held n letters lengths) k i most (f .others .changed .ready .freely)
+          pair-back (held n letters lengths) k i most (f .others .changed .ready .here .freely)
           (λ j l. rw (mine, yours) (f .counts j (omega arith))) (rw yours half)
 
-      -- a pair tried in vain is marked, both ways round where at most half of either word cancels
+      -- a pair that was tried and failed is marked, both ways round where at most half of either word cancels
       pair-marked : 4 ≤ form → (marks′ : List ℕ) (changed : List ℕ) (both : Bool) → both ≡ leb (2 * most) (length changed)
           → changed ≡ heldWord letters lengths k → Added (λ a b. ((a ≡ k) × (b ≡ i)) ⊎ ((both ≡ true) × (a ≡ i) × (b ≡ k))) marks marks′
           → Marked n (held n letters lengths) marks′
       pair-marked h marks′ changed both told mine added =
           let r = f .others .changed .ready in
-          marked-more n (held n letters lengths) (λ a b. ((a ≡ k) × (b ≡ i)) ⊎ ((both ≡ true) × (a ≡ i) × (b ≡ k))) marks marks′ (r .few)
+          marked-more n (held n letters lengths) (λ a b. ((a ≡ k) × (b ≡ i)) ⊎ ((both ≡ true) × (a ≡ i) × (b ≡ k))) marks marks′ (r .here .few)
           (r .marked) added (λ a b a-in b-in p. elim p [
             | inl s ↦ rw (s .0, s .1) (pair-missed h)
             | inr s ↦
@@ -280,12 +265,8 @@ module _ (letters lengths marks : List ℕ) (n last k : ℕ) (found : Found) whe
           rw (p, q) (record {
             changed = record {
               ready = record {
-                few = r .few;
+                here = r .here;
                 last-within = r .last-within;
-                wide = r .wide;
-                counted = r .counted;
-                short = r .short;
-                freely = r .freely;
                 long = same ∙ r .long;
                 marked = pair-marked h marks′ changed both told mine added;
                 settled = r .settled;
@@ -309,17 +290,17 @@ module _ (letters lengths marks : List ℕ) (n last k : ℕ) (found : Found) whe
         form-found : length other < 2 * c → tryForm bytes (held n letters lengths) k i (formAt form) ≡ some (record { changed = k; form = formAt form; other = i })
         form-found h =
             let S : List (List ℕ) = held n letters lengths in
-            let freely : FreelyReduced bytes S = f .others .changed .ready .freely in
+            let freely : FreelyReduced bytes S = f .others .changed .ready .here .freely in
             try-shorter bytes byteLaws S k i (formAt form)
             (formed-shorter bytes byteLaws (formAt form) (word bytes S i) (word bytes S k) (freely i) (freely k) .1
             (rw (mine, yours) (omega (arith, told-words, ap length here))))
 
         form-missed : 2 * c ≤ length other → tryForm bytes (held n letters lengths) k i (formAt form) ≡ none
         form-missed h =
-            form-none (held n letters lengths) (f .others .changed .ready .freely) k i (formAt form)
+            form-none (held n letters lengths) (f .others .changed .ready .here .freely) k i (formAt form)
             (rw (mine, yours) (omega (arith, told-words, ap length here)))
 
-        -- a form tried in vain
+        -- a form that fails
         pub forms-turn : (most′ : ℕ) → form < 4 → 2 * c ≤ length other → most′ ≡ max most c
             → Forms letters lengths marks n last k i end (form + 1) most′ found
         forms-turn most′ h t e =

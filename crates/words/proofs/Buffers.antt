@@ -5,8 +5,8 @@ use mathlib.Core.Path.{_∙_, _≡_, ap}
 use native.Mathlib.Nat.{le-antisymm}
 use native.Mathlib.Numerals.{add-one}
 use native.Mathlib.Omega.{arith}
-use lib.ListN.{drop, getD, length, length-set, length-take, set, take}
-use lib.Seq.{drop-cons, length-take-le, set-at, take-at, take-length, take-suc}
+use lib.ListN.{drop, getD, length, length-drop, length-set, length-take, set, take}
+use lib.Seq.{drop-cons, length-take-le, set-at, take-all, take-at, take-length, take-suc}
 use Rattle.words.specs.Buffers.{written}
 
 -- what is left of a list from a place within it: the byte there, and the rest
@@ -21,6 +21,10 @@ front-part s n =
 
 pub front-short : (s : List ℕ) (n most : ℕ) → n ≤ most → length (take (n - 0) s) ≤ most
 front-short s n most h = rw (length-take (n - 0) s) (omega arith)
+
+-- and what is left from a place on
+pub rest-part : (s : List ℕ) (k : ℕ) → take (length s - k) (drop k s) ≡ drop k s
+rest-part s k = take-all (length s - k) (drop k s) (omega (arith, length-drop k s))
 
 -- a copy of a list to the beginning of a buffer, one byte at a time
 module _ (w d : List ℕ) (i : ℕ) (inside : i < length w) (room : length w ≤ length d) where

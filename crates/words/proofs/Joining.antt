@@ -6,13 +6,13 @@ use mathlib.Core.Path.{_∙_, _≡_, ap, ap₂, sym}
 use native.Mathlib.Numerals.{add-one}
 use native.Mathlib.Omega.{arith}
 use lib.ListN.{drop, getD, length, length-drop, set, take}
-use lib.Seq.{drop-cons, drop-length, length-take-le, take-all, take-append-add, take-append-seam, take-suc-set, take-take}
+use lib.Seq.{drop-cons, drop-length, length-take-le, take-append-add, take-append-seam, take-suc-set, take-take}
 use borrow.Rule.Slice.PartMut.{putMid}
 use Rattle.words.specs.Alphabet.{bytes, flipByte}
 use Rattle.words.specs.Buffers.{written}
 use Rattle.words.specs.Words.{cancellation, commonPrefix, freelyReduce, inverse, signed}
 use Rattle.words.proofs.Alphabet.{byteLaws}
-use Rattle.words.proofs.Buffers.{front-part}
+use Rattle.words.proofs.Buffers.{front-part, rest-part}
 use Rattle.words.proofs.Cancellation.{cancellation-commonPrefix, freelyReduce-cancellation}
 use Rattle.words.proofs.Inverse.{drop-inverse, inverse-cons, inverse-nil, signed-irreducible}
 use Rattle.words.proofs.FreeReduction.{freelyReduce-left, freelyReduce-twice, irreducible-of-same}
@@ -39,9 +39,6 @@ pub inverse-begin : (s w : List ℕ) (n : ℕ) → take n s ≡ take n s ++ inve
 inverse-begin s w n = sym (ap (λ (l : List ℕ). take n s ++ l) (ap (inverse bytes) (drop-length w) ∙ inverse-nil bytes byteLaws) ∙ append-nil (take n s))
 
 -- what is left of a word or its inverse is put there
-rest-part : (w : List ℕ) (c : ℕ) → take (length w - c) (drop c w) ≡ drop c w
-rest-part w c = take-all (length w - c) (drop c w) (omega (arith, length-drop c w))
-
 module _ (b : Bool) (s w : List ℕ) (n c : ℕ) (inside : c ≤ length w) (room : n + length w ≤ length s + c) where
   pub plain-rest : (y : List ℕ) → b ≡ false → y ≡ written (take (length w - c) (drop c w)) (take (length s - n) (drop n s))
       → take (n + length w - c) (putMid n (length s - n) s y) ≡ take n s ++ drop c (signed bytes b w)

@@ -71,15 +71,7 @@ loop2-less c = search needs
 
 loop2-again : tie.Need-loop2-again Inv-loop2 μ-loop2 Inv-loop μ-loop Inv-search μ-search
 loop2-again c =
-    let counted = c .before .before in
-    let inv = counted .before .before .loop2 .inv in (
-      forms-turn _ _ _ _ _ _ _ _ _ _ _ (inv .0) _ _ _ (counted .seam-of .ensures .0) (inv .2) (inv .1) _ (search needs) (search needs) (search needs),
-      search needs,
-      search needs,
-      search needs,
-      search needs,
-      search needs,
-    )
+    (search (forms-turn, needs), search needs, search needs, search needs, search needs, search needs)
 
 mul-both : tie.Need-mul-both Inv-loop2 μ-loop2 Inv-loop μ-loop Inv-search μ-search
 mul-both c = search needs
@@ -94,8 +86,17 @@ loop-less : tie.Need-loop-less Inv-loop2 μ-loop2 Inv-loop μ-loop Inv-search μ
 loop-less c = search needs
 
 loop-again : tie.Need-loop-again Inv-loop2 μ-loop2 Inv-loop μ-loop Inv-search μ-search
-loop-again c =
-    (⊎-elim (λ w. forms-end _ _ _ _ _ _ _ _ _ _ _ (w .2 .inv .0) _ _ _ _ _ (w .8) (w .9) (w .2 .inv .1) (w .5 .ensures) (search needs) (search needs) (search needs)) (λ w. search (others-stale, needs)) (c .if1 .came), search needs)
+loop-again c = (
+  ⊎-elim
+      (λ w.
+      let tried = w .2 .inv in
+      let marked = w .5 .ensures in
+      let same-marks = w .8 in
+      let same-found = w .9 in
+      forms-end _ _ _ _ _ _ _ _ _ _ _ (tried .0) _ _ _ _ _ same-marks same-found (tried .1) marked (search needs) (search needs) (search needs))
+      (λ w. search (others-stale, needs)) (c .if1 .came),
+  search needs,
+)
 
 add-k : tie.Need-add-k Inv-loop2 μ-loop2 Inv-loop μ-loop Inv-search μ-search
 add-k c = search needs

@@ -5,17 +5,16 @@ use lib.ListN.{length, drop}
 use borrow.Author.Needs.{needs}
 use Rattle.records.proofs.Rules.{bytes-begin, bytes-fail, bytes-pass, bytes-end}
 use Rattle.records.proofs.Chains.{told-true, told-false}
-use Rattle.records.specs.Records.{isLetterOrStop}
-use Rattle.records.specs.Refusals.{eachByte}
+use Rattle.records.specs.Refusals.{byteRule}
 use Rattle.records.proofs.record.check_bytes.Statement.{statement}
 use Rattle.records.proofs.record.check_bytes.Tie as tie
 
 abbrev Inv-loop : tie.InvT-loop
-Inv-loop letters at i₀ i =
-    (i ≤ length letters) × (eachByte isLetterOrStop 4 letters at ≡ eachByte isLetterOrStop 4 (drop i letters) (at + i))
+Inv-loop bytes at i₀ i =
+    (i ≤ length bytes) × (byteRule bytes at ≡ byteRule (drop i bytes) (at + i))
 
 abbrev μ-loop : tie.MeasureT-loop
-μ-loop letters at i₀ i = length letters - i
+μ-loop bytes at i₀ i = length bytes - i
 
 loop-holds : tie.Need-loop-holds Inv-loop μ-loop
 loop-holds c = search (bytes-begin, needs)
