@@ -120,15 +120,6 @@ module _ (S : List (List ℕ)) where
       go none = refl
       go (some p) = refl
 
-  -- none, or a product with those letters
-  letters-none : (w : List ℕ) → productLetters 63 S w ≡ none → productFor S w ≡ none
-  unfolding productLetters
-  letters-none w e = map-eq-none-iff (map factorByte) (factored bytes S 63 w) .0 e
-
-  letters-some : (w l : List ℕ) → productLetters 63 S w ≡ some l → (p : List Factor) × (productFor S w ≡ some p) × (map factorByte p ≡ l)
-  unfolding productLetters
-  letters-some w l e = map-eq-some-iff (map factorByte) (factored bytes S 63 w) .0 e
-
 -- so many factors are taken off the word w: their letters are in the row, and the others are those of the product that is left
 pub record Left (S : List (List ℕ)) (w word : List ℕ) (size : ℕ) (row : List ℕ) (count : ℕ) : Type 0 where
   pub freely : freelyReduce bytes (take size word) ≡ take size word
@@ -219,12 +210,12 @@ module _ (S : List (List ℕ)) (target word row : List ℕ) (size count : ℕ) (
   whole-told = ap (productLetters 63 S) (sym loaded) ∙ sym told
 
   none-found : member ≡ false → productFor S (targetWord target) ≡ none
-  unfolding lettersIn
-  none-found e = letters-none S (targetWord target) (whole-told ∙ rw e)
+  unfolding lettersIn productLetters
+  none-found e = map-eq-none-iff (map factorByte) (factored bytes S 63 (targetWord target)) .0 (whole-told ∙ rw e)
 
   some-found : member ≡ true → (p : List Factor) × (productFor S (targetWord target) ≡ some p) × (map factorByte p ≡ take count row)
-  unfolding lettersIn
-  some-found e = letters-some S (targetWord target) (take count row) (whole-told ∙ rw e)
+  unfolding lettersIn productLetters
+  some-found e = map-eq-some-iff (map factorByte) (factored bytes S 63 (targetWord target)) .0 (whole-told ∙ rw e)
 
   pub verdict-told : member ≡ isFound (productFor S (targetWord target))
   verdict-told = elim (bool-cases member) [

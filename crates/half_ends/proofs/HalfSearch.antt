@@ -1,12 +1,11 @@
 -- The search for a half-end move over words held in arrays. The halves of a word are compared by counts: a word begins with the first half
 -- of another, or of its inverse, where the letters that they have in common reach over that half.
 use Prim.Native.Nat.{_%_, _*_, _+_, _/_, _<_, _≤_, ℕ}
-use mathlib.Core.Bool.{Bool, _||_, false, not, true}
+use mathlib.Core.Bool.{Bool, false, not, true}
 use mathlib.Core.List.{List}
 use mathlib.Core.Logic.{inl, inr}
 use mathlib.Core.Option.{none, some}
 use mathlib.Core.Path.{_∙_, _≡_, ap, ap₂, refl, sym}
-use native.Mathlib.Decide.{ℕ-discrete}
 use native.Mathlib.Numerals.{add-one}
 use native.Mathlib.Omega.{arith}
 use lib.Dec.{eqb, leb}
@@ -19,7 +18,7 @@ use Rattle.words.proofs.Alphabet.{byteLaws}
 use Rattle.words.proofs.Cancellation.{cancellation-commonPrefix}
 use Rattle.systems.specs.Moves.{form₁, form₄}
 use Rattle.systems.specs.Products.{word}
-use Rattle.systems.specs.Rules.{anyBelow, begins, elsewhere, ends, first, firstHalf, halfEnd, qualifies, secondHalf, shortestBelow, tryHalf}
+use Rattle.systems.specs.Rules.{begins, elsewhere, ends, first, firstHalf, halfEnd, qualifies, secondHalf, shortestBelow, tryHalf}
 use Rattle.systems.proofs.HalfEnds.{half-at-beginning, half-at-end, half-neither, half-same, halfEnd-chosen, halfEnd-first, halfEnd-unchosen, shortest-better, shortest-keep, shortest-skip, shortest-some, shortest-start}
 use Rattle.systems.proofs.Qualifying.{qualifies-qualified}
 use Rattle.systems.proofs.Halves.{back-half, begins-signed, ends-signed}
@@ -40,26 +39,10 @@ module _ (b : Bool) (w v : List ℕ) (c : ℕ) (counted : c ≡ commonPrefix byt
   half-other d h e =
       rw (begins-signed bytes byteLaws b w v, begins-signed bytes byteLaws b w (inverse bytes v), ← counted, ← e, lt-leb (length w / 2) c h)
 
--- the slots below i beside slot h: no word of theirs, nor its inverse, begins with u
-module _ (S : List (List ℕ)) (h : ℕ) (u : List ℕ) (i : ℕ) where
-  own-passed : i ≡ h → anyBelow (elsewhere bytes S h u) i ≡ false → anyBelow (elsewhere bytes S h u) (i + 1) ≡ false
-  own-passed e none-yet = any-more-one (elsewhere bytes S h u) i none-yet (rw (eq-eqb i h e))
-
-  other-passed : begins bytes u (word bytes S i) || begins bytes u (inverse bytes (word bytes S i)) ≡ false
-      → anyBelow (elsewhere bytes S h u) i ≡ false → anyBelow (elsewhere bytes S h u) (i + 1) ≡ false
-  other-passed e none-yet = any-more-one (elsewhere bytes S h u) i none-yet (elim (ℕ-discrete i h) [
-    | yes d ↦ rw (eq-eqb i h d)
-    | no d ↦ rw (ne-eqb i h d, e)
-  ])
-
-  other-met : (n : ℕ) → i < n → (i ≡ h → ⊥) → begins bytes u (word bytes S i) || begins bytes u (inverse bytes (word bytes S i)) ≡ true
-      → anyBelow (elsewhere bytes S h u) n ≡ true
-  other-met n l d e = any-found (elsewhere bytes S h u) i n l (rw (ne-eqb i h d, e))
-
 -- the loop over the other slots
 module _ (inverted : Bool) (letters lengths : List ℕ) (n h i : ℕ) where
-  abbrev halfOf : List ℕ
-  halfOf = firstHalf bytes (signed bytes inverted (word bytes (held n letters lengths) h))
+  abbrev begun : ℕ → Bool
+  begun = elsewhere bytes (held n letters lengths) h (firstHalf bytes (signed bytes inverted (word bytes (held n letters lengths) h)))
 
   pub elsewhere-begin : halfElsewhere inverted 0 (held n letters lengths) h ≡ false
   unfolding halfElsewhere
@@ -68,7 +51,7 @@ module _ (inverted : Bool) (letters lengths : List ℕ) (n h i : ℕ) where
   module _ (none-yet : halfElsewhere inverted i (held n letters lengths) h ≡ false) where
     pub elsewhere-own : i ≡ h → halfElsewhere inverted (i + 1) (held n letters lengths) h ≡ false
     unfolding halfElsewhere
-    elsewhere-own e = own-passed (held n letters lengths) h halfOf i e none-yet
+    elsewhere-own e = any-more-one begun i none-yet (rw (eq-eqb i h e))
 
     pub elsewhere-end : i ≤ n → n ≤ i → false ≡ halfElsewhere inverted n (held n letters lengths) h
     elsewhere-end l m = let z : i ≡ n = omega arith in sym (rw z at none-yet)
@@ -80,13 +63,13 @@ module _ (inverted : Bool) (letters lengths : List ℕ) (n h i : ℕ) where
           told ∙ ap₂ (meetsHalf inverted) (mine ∙ sym (held-word n h letters lengths h-inside))
           (yours ∙ sym (held-word n i letters lengths i-inside))
 
-      pub elsewhere-turn : met ≡ false → halfElsewhere inverted (i + 1) (held n letters lengths) h ≡ false
+      pub elsewhere-turn : (i ≡ h → ⊥) → met ≡ false → halfElsewhere inverted (i + 1) (held n letters lengths) h ≡ false
       unfolding halfElsewhere meetsHalf
-      elsewhere-turn e = other-passed (held n letters lengths) h halfOf i (sym met-words ∙ e) none-yet
+      elsewhere-turn apart e = any-more-one begun i none-yet (rw (ne-eqb i h apart, sym met-words ∙ e))
 
       pub elsewhere-met : (i ≡ h → ⊥) → met ≡ true → true ≡ halfElsewhere inverted n (held n letters lengths) h
       unfolding halfElsewhere meetsHalf
-      elsewhere-met apart e = sym (other-met (held n letters lengths) h halfOf i n i-inside apart (sym met-words ∙ e))
+      elsewhere-met apart e = sym (any-found begun i n i-inside (rw (ne-eqb i h apart, sym met-words ∙ e)))
 
 -- a held word has the length that is held for it
 pub held-size : (letters lengths : List ℕ) (k : ℕ) → k < 16 → length letters ≡ 1024 → Short lengths

@@ -14,7 +14,7 @@ use Rattle.words.specs.Words.{commonPrefix, inverse, signed}
 use Rattle.words.proofs.Alphabet.{byteLaws}
 use Rattle.words.proofs.Inverse.{signed-length}
 use Rattle.systems.specs.Factoring.{bigEnd, eitherOf, endsOther, leading}
-use Rattle.systems.specs.Products.{Factor, word}
+use Rattle.systems.specs.Products.{word}
 use Rattle.systems.specs.Rules.{ends, first, secondHalf}
 use Rattle.systems.proofs.Halves.{begins-signed, ends-signed}
 use Rattle.systems.proofs.Searching.{any-found, any-more-one, first-found, first-more-one}
@@ -150,19 +150,6 @@ pub whole-even : (letters lengths whole : List ℕ) (k : ℕ) → whole ≡ held
     → length (heldWord letters lengths k) % 2 ≡ 0
 whole-even letters lengths whole k mine even = rw (← mine) even
 
--- the factors of a slot, in their order
-module _ (test : Factor → Bool) (k : ℕ) where
-  either-plain : test (record { slot = k; inverted = false }) ≡ true → eitherOf bytes test k ≡ some (record { slot = k; inverted = false })
-  either-plain e = rw e
-
-  either-inverted : test (record { slot = k; inverted = false }) ≡ false → test (record { slot = k; inverted = true }) ≡ true
-      → eitherOf bytes test k ≡ some (record { slot = k; inverted = true })
-  either-inverted e f = rw (e, f)
-
-  either-neither : test (record { slot = k; inverted = false }) ≡ false → test (record { slot = k; inverted = true }) ≡ false
-      → eitherOf bytes test k ≡ none
-  either-neither e f = rw (e, f)
-
 -- the loop over the slots
 module _ (half : Bool) (letters lengths w : List ℕ) (n : ℕ) where
   pub leads-begin : leadBelow half 0 (held n letters lengths) w ≡ none
@@ -177,22 +164,19 @@ module _ (half : Bool) (letters lengths w : List ℕ) (n : ℕ) where
       pub leads-plain : k < n → plain ≡ true → some (record { slot = k; inverted = false }) ≡ leadBelow half n (held n letters lengths) w
       unfolding leadBelow
       leads-plain inside e =
-          sym (first-found (eitherOf bytes (leads half (held n letters lengths) w)) k n _ inside before
-          (either-plain (leads half (held n letters lengths) w) k (sym told ∙ e)))
+          sym (first-found (eitherOf bytes (leads half (held n letters lengths) w)) k n _ inside before (rw (sym told ∙ e)))
 
       module _ (missed : plain ≡ false) (inverted : Bool)
           (told₂ : inverted ≡ leads half (held n letters lengths) w (record { slot = k; inverted = true })) where
         pub leads-inverted : k < n → inverted ≡ true → some (record { slot = k; inverted = true }) ≡ leadBelow half n (held n letters lengths) w
         unfolding leadBelow
         leads-inverted inside e =
-            sym (first-found (eitherOf bytes (leads half (held n letters lengths) w)) k n _ inside before
-            (either-inverted (leads half (held n letters lengths) w) k (sym told ∙ missed) (sym told₂ ∙ e)))
+            sym (first-found (eitherOf bytes (leads half (held n letters lengths) w)) k n _ inside before (rw (sym told ∙ missed, sym told₂ ∙ e)))
 
         pub leads-turn : inverted ≡ false → leadBelow half (k + 1) (held n letters lengths) w ≡ none
         unfolding leadBelow
         leads-turn e =
-            first-more-one (eitherOf bytes (leads half (held n letters lengths) w)) k before
-            (either-neither (leads half (held n letters lengths) w) k (sym told ∙ missed) (sym told₂ ∙ e))
+            first-more-one (eitherOf bytes (leads half (held n letters lengths) w)) k before (rw (sym told ∙ missed, sym told₂ ∙ e))
 
 -- the leading factor: a big end, or else a half start
 module _ (letters lengths w : List ℕ) (n : ℕ) (big : Lead) (told : leadFactor big ≡ leadBelow false n (held n letters lengths) w) where

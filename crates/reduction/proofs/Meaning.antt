@@ -88,8 +88,7 @@ runWords s n = runWithin bytes n (freelyReducedWords s)
 -- what a run leaves: short words, freely reduced
 module _ (s : List ℕ) (n : ℕ) where
   pub left-short : AllShort (runWords s n)
-  unfolding freelyReducedWords
-  left-short = forward-within bytes byteLaws n (systemOf s) 63 (reduced-short s)
+  left-short = forward-within bytes byteLaws n (freelyReducedWords s) (loaded-freelyReduced s) 63 (reduced-short s)
 
   pub left-freelyReduced : FreelyReduced bytes (runWords s n)
   left-freelyReduced = run-freelyReduced bytes byteLaws n (freelyReducedWords s) (loaded-freelyReduced s)
@@ -113,19 +112,16 @@ module _ (s : List ℕ) (n : ℕ) where
 
   -- no word on the way is too long, forward or backward
   forward-runs : runRules false (freelyReducedWords s) (logOf (runMoves s n)) ≡ Fine
-  unfolding freelyReducedWords
   forward-runs = run-accepts false (freelyReducedWords s) (logOf (runMoves s n)) (rw (words-length s) log-passes)
-      (λ d. rw (logOf-moves (runMoves s n)) (forward-way-within bytes byteLaws n (systemOf s) 63 d (reduced-short s)))
+      (λ d. rw (logOf-moves (runMoves s n)) (forward-way-within bytes byteLaws n (freelyReducedWords s) (loaded-freelyReduced s) 63 (reduced-short s) d))
 
   backward-runs : runRules true (runWords s n) (logOf (runMoves s n)) ≡ Fine
-  unfolding freelyReducedWords
   backward-runs = run-accepts true (runWords s n) (logOf (runMoves s n)) (rw left-length log-passes)
-      (λ d. rw (logOf-moves (runMoves s n)) (backward-way-within bytes byteLaws n (systemOf s) 63 (length (runMoves s n) - d) (reduced-short s)))
+      (λ d. rw (logOf-moves (runMoves s n)) (backward-way-within bytes byteLaws n (freelyReducedWords s) (loaded-freelyReduced s) 63 (reduced-short s) (length (runMoves s n) - d)))
 
   -- and backward it comes to the given words, freely reduced
   backward-gives : undoneAll bytes (runWords s n) (runMoves s n) ≡ freelyReducedWords s
-  unfolding freelyReducedWords
-  backward-gives = backward bytes byteLaws n (systemOf s)
+  backward-gives = backward bytes byteLaws n (freelyReducedWords s) (loaded-freelyReduced s)
 
   -- the words left generate the same words as the given ones
   pub left-equivalent : Equivalent bytes (systemOf s) (runWords s n)
@@ -250,7 +246,7 @@ reduce-means s words log a words′ log′ answered wrote logged =
           λ system fits enough ended room.
           ap (λ (r : Reduction). r .verdict) (answered
           ∙ ap (λ (c : Checked). reductionOf c Done (freelyReducedWords s) (roomFor log))
-          (enough-passes s log (systemRoom s (length words)) enough (rw (system, ← room-fits (slots s * 64) (length words) fits)) ended room));
+          (enough-passes s log (systemRoom s (length words)) enough (rw (system, room-fits (slots s * 64) (length words) fits)) ended room));
       reduces =
           λ done.
           let passed = reduction-fine (reduceTests s words log) (freelyReducedWords s) (roomFor log) (rw answered at done) in

@@ -46,4 +46,4 @@ run-accepts backward S log logged short = each-passes (turnRule backward S log) 
 pub replay-accepts : (s log : List ℕ) (way : Bool) (room : ℕ) → systemRules s ≡ Fine → logRules (slots s) log ≡ Fine
     → slots s * 64 ≤ room → runRules way (freelyReducedWords s) log ≡ Fine → replayRules s log way room ≡ Fine
 unfolding replayRules replayTests
-replay-accepts s log way room system logged long ran = rw (system, logged, ← room-fits (slots s * 64) room long, ran)
+replay-accepts s log way room system logged long ran = rw (system, logged, room-fits (slots s * 64) room long, ran)

@@ -3,7 +3,7 @@ use mathlib.Core.Path.{refl}
 use Rattle.words.specs.Alphabet.{flipByte}
 use Rattle.words.specs.Words.{inverse}
 use Rattle.systems.specs.Rules.{shortening, halfEnd, next}
-use Rattle.records.specs.Refusals.{recordRules, targetRules}
+use Rattle.records.specs.Refusals.{lettersRule, recordRules, targetRules}
 use Rattle.slots.specs.Refusals.{systemRules, wordRoom, systemRoom}
 use Rattle.slots.specs.Systems.{freelyReducedWords}
 use Rattle.systems.specs.Factoring.{leading}
@@ -11,7 +11,7 @@ use Rattle.membership.specs.Membership.{memberTests}
 use Rattle.sheets.specs.Sheets.{EachSays, sheets}
 
 pub sheets-hold : EachSays sheets
-unfolding flipByte inverse shortening halfEnd next leading recordRules systemRules wordRoom freelyReducedWords systemRoom targetRules memberTests
+unfolding flipByte inverse shortening halfEnd next leading recordRules lettersRule systemRules wordRoom freelyReducedWords systemRoom targetRules memberTests
 sheets-hold = (
   (refl, refl),
   (

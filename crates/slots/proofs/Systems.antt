@@ -60,14 +60,9 @@ module _ (s : List ℕ) where
   system-records even few e = rw (eq-eqb _ _ even, le-leb _ _ few, e)
 
 -- refusal 10
-module _ (output room : ℕ) where
-  pub room-short : {x : Checked} → room < output → x ≡ refusal 10 0 → x ≡ wordRoom output room
-  unfolding wordRoom
-  room-short h e = rw (lt-leb _ _ h, e)
-
-  pub room-fits : output ≤ room → Fine ≡ wordRoom output room
-  unfolding wordRoom
-  room-fits h = rw (le-leb _ _ h)
+pub room-fits : (output room : ℕ) → output ≤ room → wordRoom output room ≡ Fine
+unfolding wordRoom
+room-fits output room h = rw (le-leb _ _ h)
 
 -- the words of a system, freely reduced, are freely reduced
 pub loaded-freelyReduced : (s : List ℕ) → FreelyReduced bytes (freelyReducedWords s)

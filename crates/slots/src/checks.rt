@@ -5,6 +5,7 @@ ghost use lib.ListN.{length};
 ghost use Rattle.records.specs.Refusals.{eachBelow};
 ghost use Rattle.slots.specs.Refusals.{slotRules, systemRoom, systemRules, wordRoom};
 use records::answers::Checked;
+use records::answers::check_that;
 use records::answers::refuse;
 use records::record::RECORD;
 use records::record::check_record;
@@ -46,11 +47,7 @@ fn check_records(system: &[u8], n: usize) -> Checked
 pub fn check_room(output: usize, room: usize) -> Checked
     ensures { λ r. ⌜ r ≡ wordRoom output room ⌝ }
 {
-    if room < output {
-        refuse(10, 0)
-    } else {
-        Checked::Fine
-    }
+    check_that(output <= room, 10)
 }
 
 // Refusals 1 to 5, then 10: a system, and room for its words.

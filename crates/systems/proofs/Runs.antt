@@ -58,56 +58,47 @@ module _ {A : Type 0} (G : Alphabet A) (L : AlphabetLaws G) where
     λ i p o e. i p (words-uncancelled S p o) (sym (reduced-multiplied G L S p) ∙ e),
   )
 
-  module _ (n : ℕ) (S : List (List A)) where
-    -- the words are freely reduced at the start and at the end, and every move takes two different slots
-    start : FreelyReduced G (map (freelyReduce G) S)
-    start = words-freelyReduced G L S
+  -- the words that a run leaves generate the same words as the given ones
+  pub equivalent : (n : ℕ) (S : List (List A)) → Equivalent G S (runWithin G n (map (freelyReduce G) S))
+  equivalent n S =
+      run-equivalent G L S (movesWithin G n (map (freelyReduce G) S)) (run-apart n (map (freelyReduce G) S) (words-freelyReduced G L S))
 
-    apart : AllApart (movesWithin G n (map (freelyReduce G) S))
-    apart = run-apart n (map (freelyReduce G) S) start
-
-    left : FreelyReduced G (runWithin G n (map (freelyReduce G) S))
-    left = run-freelyReduced G L n (map (freelyReduce G) S) start
-
-    -- forward along the moves, from the given words freely reduced to those that the run leaves
-    pub forward : madeAll G (map (freelyReduce G) S) (movesWithin G n (map (freelyReduce G) S)) ≡ runWithin G n (map (freelyReduce G) S)
+  module _ (n : ℕ) (T : List (List A)) (start : FreelyReduced G T) where
+    -- forward along the moves, from the freely reduced words to those that the run leaves
+    pub forward : madeAll G T (movesWithin G n T) ≡ runWithin G n T
     forward = refl
 
-    -- "Backward undoes the last move first.": it comes back to the given words, freely reduced
-    pub backward : undoneAll G (runWithin G n (map (freelyReduce G) S)) (movesWithin G n (map (freelyReduce G) S)) ≡ map (freelyReduce G) S
-    backward = madeAll-undone G L (map (freelyReduce G) S) (movesWithin G n (map (freelyReduce G) S)) start apart
+    -- "Backward undoes the last move first.": it comes back to them
+    pub backward : undoneAll G (runWithin G n T) (movesWithin G n T) ≡ T
+    backward = madeAll-undone G L T (movesWithin G n T) start (run-apart n T start)
 
     -- and through the systems of the way there
-    pub backward-to : (i : ℕ) → undoneAll G (runWithin G n (map (freelyReduce G) S)) (drop i (movesWithin G n (map (freelyReduce G) S)))
-        ≡ madeAll G (map (freelyReduce G) S) (take i (movesWithin G n (map (freelyReduce G) S)))
-    backward-to i = madeAll-undone-to G L (map (freelyReduce G) S) (movesWithin G n (map (freelyReduce G) S)) i start apart
+    pub backward-to : (i : ℕ) → undoneAll G (runWithin G n T) (drop i (movesWithin G n T)) ≡ madeAll G T (take i (movesWithin G n T))
+    backward-to i = madeAll-undone-to G L T (movesWithin G n T) i start (run-apart n T start)
 
-    -- the words that a run leaves generate the same words as the given ones
-    pub equivalent : Equivalent G S (runWithin G n (map (freelyReduce G) S))
-    equivalent = run-equivalent G L S (movesWithin G n (map (freelyReduce G) S)) apart
+    module _ (b : ℕ) (short : Within G b T) where
+      pub forward-within : Within G b (runWithin G n T)
+      forward-within = run-within G L n T b start short
 
-    pub forward-within : (b : ℕ) → Within G b (map (freelyReduce G) S) → Within G b (runWithin G n (map (freelyReduce G) S))
-    forward-within b h = run-within G L n (map (freelyReduce G) S) b start h
+      pub forward-way-within : (i : ℕ) → Within G b (madeAll G T (take i (movesWithin G n T)))
+      forward-way-within i = madeAll-way-within G T (movesWithin G n T) i b (run-valid G L n T start) short
 
-    pub forward-way-within : (b i : ℕ) → Within G b (map (freelyReduce G) S)
-        → Within G b (madeAll G (map (freelyReduce G) S) (take i (movesWithin G n (map (freelyReduce G) S))))
-    forward-way-within b i h = madeAll-way-within G (map (freelyReduce G) S) (movesWithin G n (map (freelyReduce G) S)) i b
-        (run-valid G L n (map (freelyReduce G) S) start) h
-
-    pub backward-way-within : (b i : ℕ) → Within G b (map (freelyReduce G) S)
-        → Within G b (undoneAll G (runWithin G n (map (freelyReduce G) S)) (drop i (movesWithin G n (map (freelyReduce G) S))))
-    backward-way-within b i h = rw (backward-to i) (forward-way-within b i h)
+      pub backward-way-within : (i : ℕ) → Within G b (undoneAll G (runWithin G n T) (drop i (movesWithin G n T)))
+      backward-way-within i = rw (backward-to i) (forward-way-within i)
 
   module _ (noOwnInverse : (x : A) → G .flip x ≡ x → ⊥) (n : ℕ) (S : List (List A)) (ended : next G (runWithin G n (map (freelyReduce G) S)) ≡ none) where
     -- "repeat until neither rule applies": what is left is reduced
+    start : FreelyReduced G (map (freelyReduce G) S)
+    start = words-freelyReduced G L S
+
     pub reduced : Reduced G (runWithin G n (map (freelyReduce G) S))
-    reduced = run-reduced G L noOwnInverse n (map (freelyReduce G) S) (start n S) ended
+    reduced = run-reduced G L noOwnInverse n (map (freelyReduce G) S) start ended
 
     -- "The verdict is 'independent' if the rank equals the number of given words that don't freely reduce to the empty word."
     pub independence : (rank (runWithin G n (map (freelyReduce G) S)) ≡ rank (map (freelyReduce G) S)) ↔ Independent G (map (freelyReduce G) S)
-    independence = rank-iff G L (map (freelyReduce G) S) (movesWithin G n (map (freelyReduce G) S)) (start n S)
-        (run-words n (map (freelyReduce G) S) (start n S))
-        (reduced-independent G L (runWithin G n (map (freelyReduce G) S)) (left n S) reduced)
+    independence = rank-iff G L (map (freelyReduce G) S) (movesWithin G n (map (freelyReduce G) S)) start
+        (run-words n (map (freelyReduce G) S) start)
+        (reduced-independent G L (runWithin G n (map (freelyReduce G) S)) (run-freelyReduced G L n (map (freelyReduce G) S) start) reduced)
 
     -- the same of the given words themselves
     pub independence-words : (rank (runWithin G n (map (freelyReduce G) S)) ≡ rank (map (freelyReduce G) S)) ↔ IndependentWords G S
