@@ -1,4 +1,4 @@
--- Writing a word as a product over words held in arrays: the leading factor is taken off, its letter is put into a row, and so on until
+-- Writing a word as a product over words held in arrays: the leading factor is taken off, its letter is put into a list, and so on until
 -- nothing is left, nothing leads what is left, or 63 factors are taken.
 use Prim.Native.Nat.{ℕ, suc, _+_, _-_, _≤_, _<_}
 use mathlib.Core.Path.{_≡_, refl, sym, ap, ap₂, _∙_}
@@ -120,10 +120,10 @@ module _ (S : List (List ℕ)) where
       go none = refl
       go (some p) = refl
 
--- so many factors are taken off the word w: their letters are in the row, and the others are those of the product that is left
-pub record Left (S : List (List ℕ)) (w word : List ℕ) (size : ℕ) (row : List ℕ) (count : ℕ) : Type 0 where
+-- so many factors are taken off the word w: their letters are in the list, and the others are those of the product that is left
+pub record Left (S : List (List ℕ)) (w word : List ℕ) (size : ℕ) (list : List ℕ) (count : ℕ) : Type 0 where
   pub freely : freelyReduce bytes (take size word) ≡ take size word
-  pub resumes : productLetters 63 S w ≡ Option·map (_++_ (take count row)) (productLetters (63 - count) S (take size word))
+  pub resumes : productLetters 63 S w ≡ Option·map (_++_ (take count list)) (productLetters (63 - count) S (take size word))
 
 map-same : (o : Option (List ℕ)) → o ≡ Option·map (_++_ []) o
 map-same none = refl
@@ -133,34 +133,34 @@ map-joined : (l : List ℕ) (b : ℕ) (o : Option (List ℕ)) → Option·map (_
 map-joined l b none = refl
 map-joined l b (some q) = ap some (sym (append-assoc l (b ∷ []) q))
 
-pub left-begin : (S : List (List ℕ)) (word row : List ℕ) (start : ℕ) → freelyReduce bytes (take start word) ≡ take start word
-    → Left S (take start word) word start row 0
-left-begin S word row start e = record { freely = e; resumes = map-same (productLetters 63 S (take start word)) }
+pub left-begin : (S : List (List ℕ)) (word list : List ℕ) (start : ℕ) → freelyReduce bytes (take start word) ≡ take start word
+    → Left S (take start word) word start list 0
+left-begin S word list start e = record { freely = e; resumes = map-same (productLetters 63 S (take start word)) }
 
-module _ (S : List (List ℕ)) (w word row : List ℕ) (size count : ℕ) (here : Left S w word size row count) where
+module _ (S : List (List ℕ)) (w word list : List ℕ) (size count : ℕ) (here : Left S w word size list count) where
   pub left-freelyReduced : freelyReduce bytes (take size word) ≡ take size word
   left-freelyReduced = here .freely
 
   -- nothing is left
-  pub left-end : size ≤ 0 → lettersIn (eqb size 0) count row ≡ productLetters 63 S w
+  pub left-end : size ≤ 0 → lettersIn (eqb size 0) count list ≡ productLetters 63 S w
   unfolding lettersIn
   left-end l =
       let z : size ≡ 0 = omega arith in
       let none-left : productLetters (63 - count) S (take size word) ≡ some [] =
       ap (λ (k : ℕ). productLetters (63 - count) S (take k word)) z ∙ letters-nil S (63 - count) in
-      rw (eq-eqb size 0 z) (sym (here .resumes ∙ ap (Option·map (_++_ (take count row))) none-left ∙ ap some (append-nil (take count row))))
+      rw (eq-eqb size 0 z) (sym (here .resumes ∙ ap (Option·map (_++_ (take count list))) none-left ∙ ap some (append-nil (take count list))))
 
   module _ (filled : 0 < size) (short : size ≤ 63) (sized : length word ≡ 64) where
     left-filled : take size word ≡ [] → ⊥
     left-filled = word-nonempty (take size word) (rw (length-take-le size word (omega arith)) filled)
 
-    left-none : productLetters (63 - count) S (take size word) ≡ none → lettersIn (eqb size 0) count row ≡ productLetters 63 S w
+    left-none : productLetters (63 - count) S (take size word) ≡ none → lettersIn (eqb size 0) count list ≡ productLetters 63 S w
     unfolding lettersIn
     left-none e =
-        rw (ne-eqb size 0 (λ z. omega arith)) (sym (here .resumes ∙ ap (Option·map (_++_ (take count row))) e))
+        rw (ne-eqb size 0 (λ z. omega arith)) (sym (here .resumes ∙ ap (Option·map (_++_ (take count list))) e))
 
     -- letters are left after 63 factors
-    pub left-spent : count ≡ 63 → lettersIn (eqb size 0) count row ≡ productLetters 63 S w
+    pub left-spent : count ≡ 63 → lettersIn (eqb size 0) count list ≡ productLetters 63 S w
     left-spent e =
         let z : 63 - count ≡ 0 = omega arith in
         left-none (ap (λ (k : ℕ). productLetters k S (take size word)) z ∙ letters-spent S (take size word) left-filled)
@@ -170,7 +170,7 @@ module _ (S : List (List ℕ)) (w word row : List ℕ) (size count : ℕ) (here 
       lead-told = ap (leading bytes S) (sym (front-part word size)) ∙ sym told
 
       -- nothing leads what is left
-      pub left-stuck : lead ≡ Nothing → lettersIn (eqb size 0) count row ≡ productLetters 63 S w
+      pub left-stuck : lead ≡ Nothing → lettersIn (eqb size 0) count list ≡ productLetters 63 S w
       left-stuck e = left-none (letters-stuck S (63 - count) (take size word) left-filled (lead-told ∙ ap leadFactor e))
 
       module _ {x : CodeFactor} (found : lead ≡ LeadFactor x) where
@@ -178,15 +178,15 @@ module _ (S : List (List ℕ)) (w word row : List ℕ) (size count : ℕ) (here 
         left-leads = lead-told ∙ ap leadFactor found
 
         -- the leading factor is taken off
-        pub left-more : (out : List ℕ) (r b : ℕ) → (count ≡ 63 → ⊥) → count ≤ 63 → length row ≡ 64
+        pub left-more : (out : List ℕ) (r b : ℕ) → (count ≡ 63 → ⊥) → count ≤ 63 → length list ≡ 64
             → take r out ≡ freelyReduce bytes (inverse bytes (value bytes S (asFactor x)) ++ take size word)
             → b ≡ factorByte (asFactor x)
-            → Left S w out r (set row count b) (count + 1)
+            → Left S w out r (set list count b) (count + 1)
         left-more out r b more most long taken letter =
             let step : 63 - count ≡ suc (63 - (count + 1)) = omega arith in
-            let row-more : take (count + 1) (set row count b) ≡ take count row ++ (factorByte (asFactor x) ∷ []) =
-            ap (λ (k : ℕ). take k (set row count b)) (add-one count) ∙ take-suc-set row count b (omega arith)
-            ∙ ap (λ (a : ℕ). take count row ++ (a ∷ [])) letter in
+            let list-more : take (count + 1) (set list count b) ≡ take count list ++ (factorByte (asFactor x) ∷ []) =
+            ap (λ (k : ℕ). take k (set list count b)) (add-one count) ∙ take-suc-set list count b (omega arith)
+            ∙ ap (λ (a : ℕ). take count list ++ (a ∷ [])) letter in
             let left-over : Option (List ℕ) = productLetters (63 - (count + 1)) S (take r out) in
             let next : productLetters (63 - count) S (take size word) ≡ Option·map (_∷_ (factorByte (asFactor x))) left-over =
             ap (λ (k : ℕ). productLetters k S (take size word)) step
@@ -198,22 +198,22 @@ module _ (S : List (List ℕ)) (w word row : List ℕ) (size count : ℕ) (here 
                   ∙ freelyReduce-twice bytes byteLaws (inverse bytes (value bytes S (asFactor x)) ++ take size word)
                   ∙ sym taken;
               resumes =
-                  here .resumes ∙ ap (Option·map (_++_ (take count row))) next
-                  ∙ map-joined (take count row) (factorByte (asFactor x)) left-over
-                  ∙ ap (λ (l : List ℕ). Option·map (_++_ l) left-over) (sym row-more);
+                  here .resumes ∙ ap (Option·map (_++_ (take count list))) next
+                  ∙ map-joined (take count list) (factorByte (asFactor x)) left-over
+                  ∙ ap (λ (l : List ℕ). Option·map (_++_ l) left-over) (sym list-more);
             }
 
 -- the verdict and the product buffer
-module _ (S : List (List ℕ)) (target word row : List ℕ) (size count : ℕ) (member : Bool) (loaded : take size word ≡ freelyReduce bytes (wordOf target))
-    (told : lettersIn member count row ≡ productLetters 63 S (take size word)) where
-  whole-told : productLetters 63 S (targetWord target) ≡ lettersIn member count row
+module _ (S : List (List ℕ)) (target word list : List ℕ) (size count : ℕ) (member : Bool) (loaded : take size word ≡ freelyReduce bytes (wordOf target))
+    (told : lettersIn member count list ≡ productLetters 63 S (take size word)) where
+  whole-told : productLetters 63 S (targetWord target) ≡ lettersIn member count list
   whole-told = ap (productLetters 63 S) (sym loaded) ∙ sym told
 
   none-found : member ≡ false → productFor S (targetWord target) ≡ none
   unfolding lettersIn productLetters
   none-found e = map-eq-none-iff (map factorByte) (factored bytes S 63 (targetWord target)) .0 (whole-told ∙ rw e)
 
-  some-found : member ≡ true → (p : List Factor) × (productFor S (targetWord target) ≡ some p) × (map factorByte p ≡ take count row)
+  some-found : member ≡ true → (p : List Factor) × (productFor S (targetWord target) ≡ some p) × (map factorByte p ≡ take count list)
   unfolding lettersIn productLetters
   some-found e = map-eq-some-iff (map factorByte) (factored bytes S 63 (targetWord target)) .0 (whole-told ∙ rw e)
 
@@ -227,11 +227,11 @@ module _ (S : List (List ℕ)) (target word row : List ℕ) (size count : ℕ) (
   pub product-kept : (buffer : List ℕ) → member ≡ false → buffer ≡ productAfter (productFor S (targetWord target)) buffer
   product-kept buffer e = sym (ap (λ (o : Option (List Factor)). productAfter o buffer) (none-found e))
 
-  pub product-written : {y : List ℕ} (buffer : List ℕ) → y ≡ recordOf (take (count - 0) row) → member ≡ true → count ≤ 63 → length row ≡ 64
+  pub product-written : {y : List ℕ} (buffer : List ℕ) → y ≡ recordOf (take (count - 0) list) → member ≡ true → count ≤ 63 → length list ≡ 64
       → y ++ drop 64 buffer ≡ productAfter (productFor S (targetWord target)) buffer
   product-written {y} buffer e found few sized =
       let (p, is, spelt) = some-found found in
-      let same : y ≡ recordOf (map factorByte p) = e ∙ ap recordOf (front-part row count ∙ sym spelt) in
-      let short : length (map factorByte p) ≤ 63 = rw (spelt, length-take-le count row (omega arith)) few in
+      let same : y ≡ recordOf (map factorByte p) = e ∙ ap recordOf (front-part list count ∙ sym spelt) in
+      let short : length (map factorByte p) ≤ 63 = rw (spelt, length-take-le count list (omega arith)) few in
       let long : 64 ≡ length (recordOf (map factorByte p)) = sym (record-length (map factorByte p) short) in
       ap₂ (λ (l : List ℕ) (k : ℕ). l ++ drop k buffer) same long ∙ sym (ap (λ (o : Option (List Factor)). productAfter o buffer) is)

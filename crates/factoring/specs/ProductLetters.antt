@@ -12,6 +12,6 @@ use Rattle.slots.specs.Factors.{factorByte}
 unfoldable pub productLetters : ℕ → List (List ℕ) → List ℕ → Option (List ℕ)
 productLetters m S w = Option·map (map factorByte) (factored bytes S m w)
 
--- so many letters of a row where they are the whole of a product, and otherwise none
+-- so many letters of a list where they are the whole of a product, and otherwise none
 unfoldable pub lettersIn : Bool → ℕ → List ℕ → Option (List ℕ)
-lettersIn whole count row = cond whole (some (take count row)) none
+lettersIn whole count list = cond whole (some (take count list)) none

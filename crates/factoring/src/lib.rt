@@ -44,30 +44,30 @@ pub fn factor_target(
 {
     let mut word = [0u8; 64];
     let size = load_word(target, &mut word);
-    let mut row = [0u8; 64];
-    let factored = factor(&mut word, size, n, letters, lengths, &mut row);
+    let mut list = [0u8; 64];
+    let factored = factor(&mut word, size, n, letters, lengths, &mut list);
     let count = factored.count;
     let member = factored.whole;
     if member {
-        write_record(&row[0..count], &mut product[0..64]);
+        write_record(&list[0..count], &mut product[0..64]);
     }
     member
 }
 
-// Takes one factor after the other off a word, at most 63, and puts their letters into a row.
+// Takes one factor after the other off a word, at most 63, and puts their letters into a list.
 fn factor(
     word: &mut [u8],
     start: usize,
     n: usize,
     letters: &[u8],
     lengths: &[usize],
-    row: &mut [u8],
+    list: &mut [u8],
 ) -> Factored
-    requires { ⌜ (start ≤ 63) × (length (now word) ≡ 64) × (length (now row) ≡ 64) ⌝ }
+    requires { ⌜ (start ≤ 63) × (length (now word) ≡ 64) × (length (now list) ≡ 64) ⌝ }
     requires { ⌜ Held n (now letters) (now lengths) ⌝ }
     requires { ⌜ freelyReduce bytes (take start (now word)) ≡ take start (now word) ⌝ }
     ensures count { λ r. ⌜ r .count ≤ 63 ⌝ }
-    ensures letters { λ r. ⌜ lettersIn (r .whole) (r .count) (now (row .exit)) ≡ productLetters 63 (held n (now (letters .entry)) (now (lengths .entry))) (take start (now (word .entry))) ⌝ }
+    ensures letters { λ r. ⌜ lettersIn (r .whole) (r .count) (now (list .exit)) ≡ productLetters 63 (held n (now (letters .entry)) (now (lengths .entry))) (take start (now (word .entry))) ⌝ }
 {
     let mut size = start;
     let mut count = 0;
@@ -80,7 +80,7 @@ fn factor(
             break;
         };
         size = take_off(word, size, n, letters, lengths, x);
-        row[count] = factor_byte(x);
+        list[count] = factor_byte(x);
         count += 1;
     }
     Factored {
@@ -115,20 +115,20 @@ fn take_off(
     ensures word { λ r. ⌜ take r (now (word .exit)) ≡ freelyReduce bytes (inverse bytes (value bytes (held n (now (letters .entry)) (now (lengths .entry))) (asFactor x)) ++ take size (now (word .entry))) ⌝ }
 {
     let mut rest = [0u8; 128];
-    let element = word_at(letters, lengths, x.slot);
-    let left = divide(x.inverted, element, &word[0..size], &mut rest);
+    let divisor = word_at(letters, lengths, x.slot);
+    let left = divide(x.inverted, divisor, &word[0..size], &mut rest);
     copy(&rest[0..left], word);
     left
 }
 
 // Takes a slot's word, or its inverse, off the beginning of a word: the freely reduced rest goes into a buffer, and its length is answered.
-fn divide(inverted: bool, element: &[u8], word: &[u8], out: &mut [u8]) -> usize
-    requires { ⌜ (length (now element) ≤ 63) × (length (now word) ≤ 63) × (128 ≤ length (now out)) ⌝ }
-    requires { ⌜ freelyReduce bytes (now element) ≡ now element ⌝ }
+fn divide(inverted: bool, divisor: &[u8], word: &[u8], out: &mut [u8]) -> usize
+    requires { ⌜ (length (now divisor) ≤ 63) × (length (now word) ≤ 63) × (128 ≤ length (now out)) ⌝ }
+    requires { ⌜ freelyReduce bytes (now divisor) ≡ now divisor ⌝ }
     requires { ⌜ freelyReduce bytes (now word) ≡ now word ⌝ }
     ensures within { λ r. ⌜ r ≤ length (now (out .exit)) ⌝ }
-    ensures word { λ r. ⌜ take r (now (out .exit)) ≡ freelyReduce bytes (inverse bytes (signed bytes inverted (now (element .entry))) ++ now (word .entry)) ⌝ }
+    ensures word { λ r. ⌜ take r (now (out .exit)) ≡ freelyReduce bytes (inverse bytes (signed bytes inverted (now (divisor .entry))) ++ now (word .entry)) ⌝ }
 {
-    let n = push_signed(out, 0, !inverted, element);
+    let n = push_signed(out, 0, !inverted, divisor);
     push_signed(out, n, false, word)
 }

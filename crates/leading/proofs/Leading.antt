@@ -1,5 +1,5 @@
--- The search for the factor with which a word begins, over words held in arrays: a big end, or else a half start. What of an element begins
--- the word, and what another element ends with, is counted. One law for each turn and each way out.
+-- The search for the factor with which a word begins, over words held in arrays: a big end, or else a half start. What of a factor begins
+-- the word, and what another factor ends with, is counted. One law for each turn and each way out.
 use Prim.Native.Nat.{_%_, _*_, _+_, _/_, _<_, _≤_, ℕ}
 use mathlib.Core.Bool.{Bool, Bool·not-not, _&&_, _||_, false, not, true}
 use mathlib.Core.List.{List}

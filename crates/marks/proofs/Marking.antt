@@ -182,7 +182,7 @@ module _ (marks : List ℕ) (k i : ℕ) where
   pub stale-same : not (eqb i k) ≡ false → (i ≡ k → ⊥) → getD marks (k * 16 + i) 0 ≡ 0 → ⊥
   stale-same h n z = n (eqb-true i k (not-false (eqb i k) h))
 
--- the slots outside a row
+-- the slots outside a range
 module _ (n c k : ℕ) where
   pub outside-one : k < c → Outside n c k (record { from = c; to = c + 1 })
   outside-one l j h o = (l, λ e. o (omega arith) (omega arith))

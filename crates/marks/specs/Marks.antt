@@ -29,6 +29,6 @@ Added pair marks marks′ =
 abbrev pub Settled : ℕ → List (List ℕ) → ℕ → Type 0
 Settled n S c = (k i : ℕ) → k < c → i < n → (i ≡ c → ⊥) → tryOther bytes S k i ≡ none
 
--- a slot outside a row need not be tried with slot k: k comes before slot c, and the slot is not c
+-- a slot outside a range need not be tried with slot k: k comes before slot c, and the slot is not c
 abbrev pub Outside : ℕ → ℕ → ℕ → Slots → Type 0
-Outside n c k row = (j : ℕ) → j < n → (row .from ≤ j → j < row .to → ⊥) → (k < c) × (j ≡ c → ⊥)
+Outside n c k range = (j : ℕ) → j < n → (range .from ≤ j → j < range .to → ⊥) → (k < c) × (j ≡ c → ⊥)

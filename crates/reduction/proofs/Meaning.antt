@@ -20,7 +20,7 @@ use Rattle.systems.specs.Rank.{rank}
 use Rattle.systems.specs.Reduced.{Reduced}
 use Rattle.systems.specs.Rules.{movesWithin, next, runWithin}
 use Rattle.systems.proofs.Ending.{every-run-ends}
-use Rattle.systems.proofs.Equivalence.{tidy-reduced}
+use Rattle.systems.proofs.Equivalence.{freelyReduced-same}
 use Rattle.systems.proofs.Neither.{moves-again, next-none, run-ended, run-freelyReduced, run-length, run-valid}
 use Rattle.systems.proofs.Runs.{backward, backward-way-within, equivalent, forward-way-within, forward-within, independence-words, reduced}
 use Rattle.records.specs.Answers.{onFine}
@@ -152,7 +152,7 @@ module _ (s : List ℕ) (n : ℕ) (system : systemRules s ≡ Fine) where
 
   pub left-words : freelyReducedWords (bytesOf (runWords s n)) ≡ runWords s n
   unfolding freelyReducedWords
-  left-words = ap (map (freelyReduce bytes)) left-back ∙ tidy-reduced bytes byteLaws (runWords s n) (left-freelyReduced s n)
+  left-words = ap (map (freelyReduce bytes)) left-back ∙ freelyReduced-same bytes byteLaws (runWords s n) (left-freelyReduced s n)
 
   -- and those bytes pass the tests of a system
   pub left-passes : systemRules (bytesOf (runWords s n)) ≡ Fine

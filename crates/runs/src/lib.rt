@@ -76,17 +76,17 @@ fn pass_blank(letters: &[u8], lengths: &[usize], n: usize, c: usize, marks: &mut
 }
 
 // Makes the next move, and takes away the marks of its changed slot.
-fn advance(letters: &mut [u8], lengths: &mut [usize], n: usize, step: Move, marks: &mut [u8])
+fn advance(letters: &mut [u8], lengths: &mut [usize], n: usize, m: Move, marks: &mut [u8])
     requires { ⌜ Held n (now letters) (now lengths) ⌝ }
     requires { ⌜ length (now marks) ≡ 256 ⌝ }
     requires { ⌜ Marked n (held n (now letters) (now lengths)) (now marks) ⌝ }
-    requires { ⌜ FoundNext n (held n (now letters) (now lengths)) (Found.Move step) ⌝ }
-    ensures words { λ _. ⌜ held n (now (letters .exit)) (now (lengths .exit)) ≡ made bytes (held n (now (letters .entry)) (now (lengths .entry))) (moveOf step) ⌝ }
+    requires { ⌜ FoundNext n (held n (now letters) (now lengths)) (Found.Move m) ⌝ }
+    ensures words { λ _. ⌜ held n (now (letters .exit)) (now (lengths .exit)) ≡ made bytes (held n (now (letters .entry)) (now (lengths .entry))) (moveOf m) ⌝ }
     ensures held { λ _. ⌜ Held n (now (letters .exit)) (now (lengths .exit)) ⌝ }
     ensures marked { λ _. ⌜ Marked n (held n (now (letters .exit)) (now (lengths .exit))) (now (marks .exit)) ⌝ }
 {
-    let c = step.changed;
-    make_move(letters, lengths, n, step);
+    let c = m.changed;
+    make_move(letters, lengths, n, m);
     set_pairs(marks, c, 0);
     pass_blank(letters, lengths, n, c, marks);
 }
@@ -96,7 +96,7 @@ fn take_move(
     letters: &mut [u8],
     lengths: &mut [usize],
     n: usize,
-    step: Move,
+    m: Move,
     marks: &mut [u8],
     log: &mut [u8],
     used: usize,
@@ -104,17 +104,17 @@ fn take_move(
     requires { ⌜ Held n (now letters) (now lengths) ⌝ }
     requires { ⌜ length (now marks) ≡ 256 ⌝ }
     requires { ⌜ Marked n (held n (now letters) (now lengths)) (now marks) ⌝ }
-    requires { ⌜ FoundNext n (held n (now letters) (now lengths)) (Found.Move step) ⌝ }
+    requires { ⌜ FoundNext n (held n (now letters) (now lengths)) (Found.Move m) ⌝ }
     requires { ⌜ used * moveSize + moveSize ≤ length (now log) ⌝ }
     ensures found { λ r. ⌜ FoundNext n (held n (now (letters .exit)) (now (lengths .exit))) r ⌝ }
-    ensures words { λ _. ⌜ held n (now (letters .exit)) (now (lengths .exit)) ≡ made bytes (held n (now (letters .entry)) (now (lengths .entry))) (moveOf step) ⌝ }
+    ensures words { λ _. ⌜ held n (now (letters .exit)) (now (lengths .exit)) ≡ made bytes (held n (now (letters .entry)) (now (lengths .entry))) (moveOf m) ⌝ }
     ensures held { λ _. ⌜ Held n (now (letters .exit)) (now (lengths .exit)) ⌝ }
     ensures marked { λ _. ⌜ Marked n (held n (now (letters .exit)) (now (lengths .exit))) (now (marks .exit)) ⌝ }
-    ensures log { λ _. ⌜ now (log .exit) ≡ take (used * moveSize) (now (log .entry)) ++ (logRecord (moveOf step) ++ drop (used * moveSize + moveSize) (now (log .entry))) ⌝ }
+    ensures log { λ _. ⌜ now (log .exit) ≡ take (used * moveSize) (now (log .entry)) ++ (logRecord (moveOf m) ++ drop (used * moveSize + moveSize) (now (log .entry))) ⌝ }
 {
-    advance(letters, lengths, n, step, marks);
-    write_move(log, used, step);
-    find_move(letters, lengths, n, step.changed, marks)
+    advance(letters, lengths, n, m, marks);
+    write_move(log, used, m);
+    find_move(letters, lengths, n, m.changed, marks)
 }
 
 // Runs the moves as far as the log has room for them.
@@ -154,10 +154,10 @@ fn run_from(
     let mut found = first;
     let mut used = 0;
     while used < room {
-        let Found::Move(step) = found else {
+        let Found::Move(m) = found else {
             break;
         };
-        found = take_move(letters, lengths, n, step, marks, log, used);
+        found = take_move(letters, lengths, n, m, marks, log, used);
         used += 1;
     }
     Ran {

@@ -113,7 +113,7 @@ pub record Changed (letters lengths marks : List ℕ) (n last k : ℕ) (found : 
   pub k-within : k ≤ n
   pub before-k : first (tryChanged bytes (held n letters lengths)) k ≡ none
 
--- nor slot k by a slot before i, or from the end of its row on
+-- nor slot k by a slot before i, or from the end of its range on
 pub record Others (letters lengths marks : List ℕ) (n last k i end : ℕ) (found : Found) : Type 0 where
   pub changed : Changed letters lengths marks n last k found
   pub k-inside : k < n
@@ -141,9 +141,9 @@ changed-begin letters lengths marks n last here last-within long marked settled 
     }
 
 module _ (letters lengths marks : List ℕ) (n last k : ℕ) (found : Found) where
-  pub others-begin : Changed letters lengths marks n last k found → k < n → (row : Slots) → row .to ≤ n → Outside n last k row
-      → Others letters lengths marks n last k (row .from) (row .to) found
-  others-begin c h row inside out =
+  pub others-begin : Changed letters lengths marks n last k found → k < n → (range : Slots) → range .to ≤ n → Outside n last k range
+      → Others letters lengths marks n last k (range .from) (range .to) found
+  others-begin c h range inside out =
       record {
         changed = c;
         k-inside = h;

@@ -44,7 +44,7 @@ fn greatest(a: usize, b: usize) -> usize
 }
 
 // The first shortening move, in the order of changed slot, other slot and form: more than half of the other word cancels. Pairs that were
-// tried in vain are passed over; those that are tried in vain now are marked, both ways round where at most half of either word cancels.
+// tried and failed are passed over; those that fail now are marked, both ways round where at most half of either word cancels.
 // `last` is the slot changed last, or 0: of the slots before it only their pairs with it are tried.
 pub fn find_shortening(
     letters: &[u8],

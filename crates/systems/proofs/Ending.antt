@@ -1,5 +1,5 @@
 -- "Then repeat until neither rule applies" (document 01, 'The moves'): every run comes to its end. A shortening makes the letters fewer in
--- all. A half-end move by slot h leaves no more qualifying words of its length, and fewer elements that begin with the inverse of the second
+-- all. A half-end move by slot h leaves no more qualifying words of its length, and fewer factors that begin with the inverse of the second
 -- half of h's word.
 use Prim.Native.Nat.{ℕ, zero, suc, _+_, _*_, _/_, _%_, _≤_, _<_}
 use mathlib.Core.Path.{_≡_, refl, sym, ap, _∙_}
@@ -39,7 +39,7 @@ module _ {A : Type 0} (G : Alphabet A) where
   abbrev qualifying : ℕ → List (List A) → ℕ
   qualifying size S = total (λ k. bit (qualifies G S k && eqb (length (word G S k)) size)) (length S)
 
-  -- whether an element of another slot begins with the inverse of the second half of slot h's word
+  -- whether a factor of another slot begins with the inverse of the second half of slot h's word
   abbrev beginsLike : List (List A) → ℕ → Factor → Bool
   beginsLike S h x = not (eqb (x .slot) h) && leb (length (word G S h) / 2) (commonPrefix G (inverse G (word G S h)) (value G S x))
 
@@ -105,7 +105,7 @@ module _ {A : Type 0} (G : Alphabet A) (L : AlphabetLaws G) where
       changed-begins : beginsLike G T h y ≡ true → ⊥
       changed-begins e = no-longer-like G L S T h k y t apart noOwnInverse freely filled even (like-told y e .1)
 
-      -- so fewer elements do
+      -- so fewer factors do
       fewer-beginnings : k < length S → length T ≡ length S → beginnings G T h < beginnings G S h
       fewer-beginnings inside long =
           let less = total-less (both T) (both S) (length T) k (omega (arith, long)) (strictly (y .inverted) refl) (λ j l. weakly j) in
@@ -226,14 +226,14 @@ module _ {A : Type 0} (G : Alphabet A) (L : AlphabetLaws G) where
           → Ends S
       half-step least fewer again =
           let T : List (List A) = made G S m in
-          let T-tidy : FreelyReduced G T = made-freelyReduced G L S m freely in
+          let T-freely : FreelyReduced G T = made-freelyReduced G L S m freely in
           let long : length T ≡ length S = made-length G S m in
           ends-more S m (next-halfEnd G S nothing ∙ e) (elim (bool-cases (qualifies G T (m .other))) [
-            | inl t ↦ again T T-tidy no-more-letters (at-least-after least)
+            | inl t ↦ again T T-freely no-more-letters (at-least-after least)
                 (no-more-words S T (m .other) (m .changed) (taken .0) (taken .1) (found .distinct) same-length chosen long)
                 (λ h s. rw (still-chosen t h s)
                 (fewer-beginnings S T (m .other) (m .changed) (taken .0) (taken .1) (found .distinct) noOwnInverse freely (chosen .not-blank) (chosen .even) (found .inside) long))
-            | inr t ↦ fewer T T-tidy no-more-letters (at-least-after least)
+            | inr t ↦ fewer T T-freely no-more-letters (at-least-after least)
                 (fewer-words S T (m .other) (m .changed) (taken .0) (taken .1) (found .distinct) same-length chosen long (found .shortest .below)
                 (λ u. true-not-false (qualifies G T (m .other)) u t))
           ])

@@ -1,4 +1,4 @@
--- Moves keep the subgroup (document 000, section 1). A row of moves on a system does what the same row does on the slots' own letters,
+-- Moves keep the subgroup (document 000, section 1). A list of moves on a system does what the same list does on the slots' own letters,
 -- each letter then taken for its word; so a product over the words after the moves becomes one over the words before, and back.
 use Prim.Native.Nat.{ℕ, zero, suc, _+_, _<_}
 use mathlib.Core.Path.{_≡_, refl, sym, ap, _∙_}
@@ -57,7 +57,7 @@ module _ {A B : Type 0} (H : Alphabet B) (G : Alphabet A) (L : AlphabetLaws G) (
   map-made : (E : List (List B)) (m : Move) → map φ (made H E m) ≡ made G (map φ E) m
   map-made E m = rw (map-set, reduced, map-formed, map-word E (m .other), map-word E (m .changed))
 
-  -- a row of moves on the words' images
+  -- a list of moves on the words' images
   map-madeAll : (E : List (List B)) (ms : List Move) → map φ (madeAll H E ms) ≡ madeAll G (map φ E) ms
   map-madeAll E [] = refl
   map-madeAll E (m ∷ ms) = rw (map-madeAll (made H E m) ms, map-made E m)
@@ -89,11 +89,11 @@ slotLetters-length n = slotLettersFrom-length 0 n
 pub slotLetters-word : (n k : ℕ) → k < n → word factors (slotLetters n) k ≡ slotLetter k
 slotLetters-word n k h = rw zero-add at (slotLettersFrom-word 0 n k h)
 
--- a product over the words after a row of moves, as one over the words before it: each letter becomes what the moves have made of it
+-- a product over the words after a list of moves, as one over the words before it: each letter becomes what the moves have made of it
 abbrev pub before : ℕ → List Move → List Factor → List Factor
 before n ms p = spelled factors (madeAll factors (slotLetters n) ms) p
 
--- and the other way round, by the moves that take the row back
+-- and the other way round, by the moves that take the list back
 abbrev pub after : ℕ → List Move → List Factor → List Factor
 after n ms p = before n (back ms) p
 
@@ -118,8 +118,8 @@ module _ {A : Type 0} (G : Alphabet A) (L : AlphabetLaws G) where
   words-freelyReduced S k = rw (reduced-word S k) (freelyReduce-irreducible G L (word G S k))
 
   -- a tidy system's words are as free reduction leaves them
-  pub tidy-reduced : (S : List (List A)) → FreelyReduced G S → map (freelyReduce G) S ≡ S
-  tidy-reduced S h = ext-getD [] (map (freelyReduce G) S) S (length-map S (freelyReduce G))
+  pub freelyReduced-same : (S : List (List A)) → FreelyReduced G S → map (freelyReduce G) S ≡ S
+  freelyReduced-same S h = ext-getD [] (map (freelyReduce G) S) S (length-map S (freelyReduce G))
       (λ k q. reduced-word S k ∙ freelyReduce-same G L (word G S k) (h k))
 
   -- a product of the given words and of the freely reduced ones comes to the same word
@@ -134,7 +134,7 @@ module _ {A : Type 0} (G : Alphabet A) (L : AlphabetLaws G) where
       let h : k < length S = rw (length-map, slotLetters-length) at q in
       List·getD-map (multiplied G S) (slotLetters (length S)) k [] ∙ rw (slotLetters-word (length S) k h, append-nil) (sym (reduced-word S k)))
 
-  -- a product over the words after a row of moves comes to the same word as the one before
+  -- a product over the words after a list of moves comes to the same word as the one before
   pub multiplied-before : (S : List (List A)) (ms : List Move) (p : List Factor)
       → multiplied G (madeAll G S ms) p ≡ multiplied G S (before (length S) ms p)
   multiplied-before S ms p = sym (reduced-multiplied (madeAll G S ms) p)
@@ -164,7 +164,7 @@ module _ {A : Type 0} (G : Alphabet A) (L : AlphabetLaws G) where
     λ g. generated S w g.0 (sym (reduced-multiplied S g.0) ∙ g.2),
   )
 
-  -- so do the words before and after a row of moves
+  -- so do the words before and after a list of moves
   pub madeAll-equivalent : (S : List (List A)) (ms : List Move) → FreelyReduced G S → AllApart ms → Equivalent G S (madeAll G S ms)
   madeAll-equivalent S ms h a w = (
     λ g. generated (madeAll G S ms) w (after (length S) ms g.0) (sym (multiplied-after S ms g.0 h a) ∙ g.2),
@@ -174,7 +174,7 @@ module _ {A : Type 0} (G : Alphabet A) (L : AlphabetLaws G) where
   pub made-equivalent : (S : List (List A)) (m : Move) → FreelyReduced G S → Apart m → Equivalent G S (made G S m)
   made-equivalent S m h a = madeAll-equivalent S (m ∷ []) h (a, tt)
 
-  -- "equivalent to the given one": the given words and those that a row of moves leaves; "First freely reduce each given word."
+  -- "equivalent to the given one": the given words and those that a list of moves leaves; "First freely reduce each given word."
   pub run-equivalent : (S : List (List A)) (ms : List Move) → AllApart ms → Equivalent G S (madeAll G (map (freelyReduce G) S) ms)
   run-equivalent S ms a = equivalent-trans S (map (freelyReduce G) S) (madeAll G (map (freelyReduce G) S) ms) (reduced-equivalent S)
       (madeAll-equivalent (map (freelyReduce G) S) ms (words-freelyReduced S) a)

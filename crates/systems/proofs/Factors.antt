@@ -1,5 +1,5 @@
 -- Factors as letters, and the words that they stand for: a product is itself a word over the factors, and an inverse factor stands for
--- the inverse word. Elements, the factors of words that are not blank, have letters.
+-- the inverse word. Factors of slots that are not blank have letters.
 use Prim.Native.Nat.{ℕ, _<_}
 use mathlib.Core.Path.{_≡_, refl, sym, ap}
 use mathlib.Core.Bool.{Bool, true, false, not, Bool·beq, Bool·not-not, not-eq-not, true≢false}
@@ -58,9 +58,9 @@ factorLaws =
 pub factor-noOwnInverse : (f : Factor) → factors .flip f ≡ f → ⊥
 factor-noOwnInverse f e = not-eq-not {a = not (f .inverted)} {b = f .inverted} .1 (ap (λ (g : Factor). g .inverted) e) refl
 
--- a slot has two elements: of the same slot, and not the inverse, is the element itself
-pub same-element : (x y : Factor) → x .slot ≡ y .slot → (x ≡ factors .flip y → ⊥) → x ≡ y
-same-element x y e n = factor-same x y e (not-eq-not .0 (λ s. n (factor-same x (factors .flip y) e s)))
+-- a slot has two factors: the one that is not the inverse of y is y itself
+pub same-factor : (x y : Factor) → x .slot ≡ y .slot → (x ≡ factors .flip y → ⊥) → x ≡ y
+same-factor x y e n = factor-same x y e (not-eq-not .0 (λ s. n (factor-same x (factors .flip y) e s)))
 
 module _ {A : Type 0} (G : Alphabet A) (L : AlphabetLaws G) (S : List (List A)) where
   value-of : (b : Bool) (k : ℕ) → value G S (record { slot = k; inverted = not b }) ≡ inverse G (value G S (record { slot = k; inverted = b }))
@@ -95,7 +95,7 @@ module _ {A : Type 0} (G : Alphabet A) (L : AlphabetLaws G) (S : List (List A)) 
       go true = rw e (inverse-nil G L)
       go false = e
 
-  -- an element is a word that has letters
+  -- a factor of a slot that is not blank has letters
   pub notBlank-size : (x : Factor) → NotBlank G S (x .slot) → 0 < size G S x
   notBlank-size x h = rw (value-length x) (nonempty-word (word G S (x .slot)) h)
 

@@ -213,7 +213,7 @@ module _ {A : Type 0} (G : Alphabet A) (L : AlphabetLaws G) where
     halfEnd-exists h e =
         let q : Qualified G S h = qualifies-qualified G L S h (shortest-some (length S) h e .chosen) in
         let w : List A = word G S h in
-        let x : Factor = q .at-back .element in
+        let x : Factor = q .at-back .factor in
         let long : 0 < length w / 2 = omega (arith, q .not-blank, q .even) in
         let b : begins G (inverse G (secondHalf G w)) (value G S x) ≡ true = begins-back-half G L w (value G S x) (q .even) .1 (q .at-back .agrees) in
         let f = half-exists h (x .slot) (q .at-back .apart) (ends-or-begins (x .slot) (x .inverted) b) in

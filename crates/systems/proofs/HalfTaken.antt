@@ -1,5 +1,5 @@
 -- What a half-end move by slot h does: it puts the first half of h's word in place of the inverse of its second half, at the beginning of
--- an element of another slot. So no word as short as h's or shorter qualifies that did not before, and that element does not begin with
+-- a factor of another slot. So no word as short as h's or shorter qualifies that did not before, and that factor does not begin with
 -- the inverse any more.
 use Prim.Native.Nat.{ℕ, _+_, _-_, _*_, _/_, _%_, _≤_, _<_}
 use mathlib.Core.Path.{_≡_, refl, sym, ap, ap₂, _∙_}
@@ -24,7 +24,7 @@ use Rattle.systems.proofs.Qualifying.{Beginning, Qualified}
 use Rattle.systems.proofs.HalfEnds.{EndTaken, at-end, at-beginning}
 
 module _ {A : Type 0} (G : Alphabet A) where
-  -- what a half-end move by slot h does to slot k: an element y of it begins with the inverse of the second half of h's word, and after
+  -- what a half-end move by slot h does to slot k: a factor y of it begins with the inverse of the second half of h's word, and after
   -- the move with the first half; its other end and all other slots stay
   pub record Taken (S T : List (List A)) (h k : ℕ) (y : Factor) : Type 0 where
     pub at-k : y .slot ≡ k
@@ -39,7 +39,7 @@ same-or-not true false = inr refl
 same-or-not false true = inr refl
 same-or-not false false = inl refl
 
--- the two elements of a slot
+-- the two factors of a slot
 either-end : (x y : Factor) → x .slot ≡ y .slot → (x ≡ y) ⊎ (x ≡ factors .flip y)
 either-end x y e = elim (same-or-not (x .inverted) (y .inverted)) [
   | inl s ↦ inl (factor-same x y e s)
@@ -72,7 +72,7 @@ module _ {A : Type 0} (G : Alphabet A) (L : AlphabetLaws G) where
       omega (arith, split, whole, inverse-length G L (drop m v), length-drop m v)
 
   module _ (S : List (List A)) (freely : FreelyReduced G S) (half : AtMostHalf G S) where
-    -- the product that a half-end move puts in place of an element
+    -- the product that a half-end move puts in place of a factor
     taken-by : (h k : ℕ) (T : List (List A)) (y : Factor) → y .slot ≡ k → (k ≡ h → ⊥) → 0 < length (word G S h) → length (word G S h) % 2 ≡ 0
         → length (word G S h) / 2 ≤ commonPrefix G (inverse G (word G S h)) (value G S y) → value G T y ≡ freelyReduce G (word G S h ++ value G S y)
         → ((x : Factor) → (x .slot ≡ k → ⊥) → value G T x ≡ value G S x) → Taken G S T h k y
@@ -119,44 +119,44 @@ module _ {A : Type 0} (G : Alphabet A) (L : AlphabetLaws G) where
         )
 
   module _ (S T : List (List A)) (h k : ℕ) (y : Factor) (t : Taken G S T h k y) (apart : k ≡ h → ⊥) where
-    -- if after the move an element of another slot agrees with z in its first j letters, j at most half of h's length, then one did before
+    -- if after the move a factor of another slot agrees with z in its first j letters, j at most half of h's length, then one did before
     kept-beginning : (z : Factor) (j : ℕ) → (z .slot ≡ h → ⊥) → j ≤ length (word G S h) / 2 → Beginning G T (z .slot) j (value G T z)
         → Beginning G S (z .slot) j (value G S z)
     kept-beginning z j away le b = elim (ℕ-discrete (z .slot) k) [
       | yes at ↦ changed at (either-end z y (at ∙ sym (t .at-k)))
-      | no off ↦ elim (ℕ-discrete (b .element .slot) k) [
-        | yes at ↦ unchanged off (either-end (b .element) y (at ∙ sym (t .at-k)))
+      | no off ↦ elim (ℕ-discrete (b .factor .slot) k) [
+        | yes at ↦ unchanged off (either-end (b .factor) y (at ∙ sym (t .at-k)))
         | no far ↦ record {
-          element = b .element;
+          factor = b .factor;
           apart = b .apart;
-          agrees = rw (t .rest z off, t .rest (b .element) far) at (b .agrees);
+          agrees = rw (t .rest z off, t .rest (b .factor) far) at (b .agrees);
         }
       ]
     ]
       where
-        same-rest : z .slot ≡ k → value G T (b .element) ≡ value G S (b .element)
-        same-rest at = t .rest (b .element) (λ e. b .apart (e ∙ sym at))
+        same-rest : z .slot ≡ k → value G T (b .factor) ≡ value G S (b .factor)
+        same-rest at = t .rest (b .factor) (λ e. b .apart (e ∙ sym at))
 
         changed : z .slot ≡ k → (z ≡ y) ⊎ (z ≡ factors .flip y) → Beginning G S (z .slot) j (value G S z)
         changed at (inl e) =
             record {
-              element = record { slot = h; inverted = true };
+              factor = record { slot = h; inverted = true };
               apart = λ q. away (sym q);
               agrees = rw e (omega (arith, t .before, commonPrefix-comm G L (inverse G (word G S h)) (value G S y)));
             }
         changed at (inr e) =
-            let told : j ≤ commonPrefix G (value G T (factors .flip y)) (value G S (b .element)) = rw (e, same-rest at) at (b .agrees) in
+            let told : j ≤ commonPrefix G (value G T (factors .flip y)) (value G S (b .factor)) = rw (e, same-rest at) at (b .agrees) in
             record {
-              element = b .element;
+              factor = b .factor;
               apart = b .apart;
-              agrees = rw e (commonPrefix-trans G L j (value G S (factors .flip y)) (value G T (factors .flip y)) (value G S (b .element)) (omega (arith, t .behind)) told);
+              agrees = rw e (commonPrefix-trans G L j (value G S (factors .flip y)) (value G T (factors .flip y)) (value G S (b .factor)) (omega (arith, t .behind)) told);
             }
 
-        unchanged : (z .slot ≡ k → ⊥) → (b .element ≡ y) ⊎ (b .element ≡ factors .flip y) → Beginning G S (z .slot) j (value G S z)
+        unchanged : (z .slot ≡ k → ⊥) → (b .factor ≡ y) ⊎ (b .factor ≡ factors .flip y) → Beginning G S (z .slot) j (value G S z)
         unchanged off (inl e) =
             let told : j ≤ commonPrefix G (value G S z) (value G T y) = rw (e, t .rest z off) at (b .agrees) in
             record {
-              element = record { slot = h; inverted = false };
+              factor = record { slot = h; inverted = false };
               apart = λ q. away (sym q);
               agrees = commonPrefix-trans G L j (value G S z) (value G T y) (word G S h) told
                   (omega (arith, t .after, commonPrefix-comm G L (word G S h) (value G T y)));
@@ -164,7 +164,7 @@ module _ {A : Type 0} (G : Alphabet A) (L : AlphabetLaws G) where
         unchanged off (inr e) =
             let told : j ≤ commonPrefix G (value G S z) (value G T (factors .flip y)) = rw (e, t .rest z off) at (b .agrees) in
             record {
-              element = factors .flip y;
+              factor = factors .flip y;
               apart = λ q. off (sym q ∙ t .at-k);
               agrees = commonPrefix-trans G L j (value G S z) (value G T (factors .flip y)) (value G S (factors .flip y)) told
                   (omega (arith, t .behind, commonPrefix-comm G L (value G S (factors .flip y)) (value G T (factors .flip y))));
@@ -191,7 +191,7 @@ module _ {A : Type 0} (G : Alphabet A) (L : AlphabetLaws G) where
       pub same-word : word G T h ≡ word G S h
       same-word = t .rest (record { slot = h; inverted = false }) (λ e. apart (sym e))
 
-      -- the element that the move changed does not begin with the inverse of the second half any more
+      -- the factor that the move changed does not begin with the inverse of the second half any more
       pub no-longer-like : length (word G S h) / 2 ≤ commonPrefix G (inverse G (word G S h)) (value G T y) → ⊥
       no-longer-like le =
           let m : ℕ = length (word G S h) / 2 in

@@ -1,4 +1,4 @@
--- Independence (document 000, section 2, theorems 2 and 3). Along a row of moves of words that are not blank, a relation of the words
+-- Independence (document 000, section 2, theorems 2 and 3). Along a list of moves of words that are not blank, a relation of the words
 -- after the moves goes back to one of the words before them, and the other way round, and a product that cancels over the slots to one
 -- that cancels. So the words at the start are independent exactly when none of them has gone blank, given that those left are.
 use Prim.Native.Nat.{ℕ, zero, suc, _<_}
@@ -21,7 +21,7 @@ use Rattle.systems.proofs.ProductLaws.{Named, named-append, named-inver
 use Rattle.systems.proofs.Undoing.{Apart, AllApart, back, set-holds, made-others, madeAll-length, undoneAll-made, undoneAll-back}
 use Rattle.systems.proofs.Equivalence.{slotLetter, slotLetters, slotLetters-length, slotLetters-word, before, after, multiplied-before, multiplied-after}
 
--- a row of moves takes only slots of which P holds
+-- a list of moves takes only slots of which P holds
 abbrev pub Among : (ℕ → Type 0) → List Move → Type 0
 Among P [] = Unit
 Among P (m ∷ ms) = P (m .changed) × P (m .other) × Among P ms

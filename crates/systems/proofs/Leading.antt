@@ -1,4 +1,4 @@
--- With what a word begins that is a product over a reduced system (document 000, section 3): a big end or a half start of an element.
+-- With what a word begins that is a product over a reduced system (document 000, section 3): a big end or a half start of a factor.
 -- What is found so is the product's first factor, and something is found.
 use Prim.Native.Nat.{ℕ, _+_, _*_, _%_, _≤_, _<_}
 use mathlib.Core.Path.{_≡_, sym, ap, _∙_}
@@ -28,7 +28,7 @@ use Rattle.systems.proofs.ProductLaws.{word-slot}
 use Rattle.systems.proofs.ProductLemma.{not-turn, cancellation-half, product-cancellation, product-rest}
 use Rattle.systems.proofs.Halves.{begins-half, begins-back-half}
 
--- of two elements tried in turn, the one found passed its test
+-- of two factors tried in turn, the one found passed its test
 either-found : (a b : Bool) (f g x : Factor) → cond a (some f) (cond b (some g) none) ≡ some x → ((a ≡ true) × (x ≡ f)) ⊎ ((b ≡ true) × (x ≡ g))
 either-found a b f g x e = elim (else-some a f (cond b (some g) none) x e) [
   | inl r ↦ inl r
@@ -39,7 +39,7 @@ either-missed : (a b : Bool) (f g : Factor) → _≡_ {A = Option Factor} (cond 
 either-missed a b f g e = let (p, r) = else-none a f (cond b (some g) none) e in (p, given-none b g r)
 
 module _ {A : Type 0} (G : Alphabet A) (test : Factor → Bool) where
-  -- an element found is one of the system's and passes the test
+  -- a factor found is one of the system's and passes the test
   search-found : (n : ℕ) (x : Factor) → first (eitherOf G test) n ≡ some x → (test x ≡ true) × (x .slot < n)
   search-found n x e =
       let (k, h, d, before) = first-some (eitherOf G test) n x e in
@@ -61,7 +61,7 @@ module _ {A : Type 0} (G : Alphabet A) (test : Factor → Bool) where
 
 module _ {A : Type 0} (G : Alphabet A) (L : AlphabetLaws G) where
   module _ (S : List (List A)) where
-    -- some other element ends with the second half of x
+    -- some other factor ends with the second half of x
     other-found : (x : Factor) (k : ℕ) → endsOther G S x k ≡ true
         → (v : Factor) × (v ≡ x → ⊥) × (ends G (secondHalf G (value G S x)) (value G S v) ≡ true)
     other-found x k e =
@@ -173,7 +173,7 @@ module _ {A : Type 0} (G : Alphabet A) (L : AlphabetLaws G) where
 
     module _ (freely : FreelyReduced G S) (reduced : Reduced G S) where
       module _ (f : Factor) (p : List Factor) (r : FreelyReducedOver G S (f ∷ p)) where
-        -- the inverse of an element other than the first factor cancels against the product as against that factor
+        -- the inverse of a factor other than the first factor cancels against the product as against that factor
         against : (x : Factor) → NotBlank G S (x .slot) → (x ≡ f → ⊥) → commonPrefix G (value G S x) (multiplied G S (f ∷ p)) ≡ cancellationOf G S (factors .flip x) f
         against x h n =
             sym (cancellation-inverse-left G L (value G S x) (multiplied G S (f ∷ p)))

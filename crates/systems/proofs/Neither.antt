@@ -25,7 +25,7 @@ module _ {A : Type 0} (G : Alphabet A) where
     pub allowed : Allowed G S m
     pub no-longer : length (movedWord G S m) ≤ length (word G S (m .changed))
 
-  -- each move of a row is valid at its point
+  -- each move of a list is valid at its point
   abbrev pub ValidMoves : List (List A) → List Move → Type 0
   ValidMoves S [] = Unit
   ValidMoves S (m ∷ ms) = Valid S m × ValidMoves (made G S m) ms

@@ -13,10 +13,10 @@ use Rattle.words.proofs.FreeReduction.{irreducible-next, freelyReduce-same}
 use Rattle.words.proofs.Cancellation.{commonPrefix-most, cancellation-le-left, cancellation-le-right, cancellation-local, length-cancellation, freelyReduce-begins}
 use Rattle.systems.specs.Products.{Factor, factors, value, multiplied, FreelyReducedOver, FreelyReduced, NotBlank}
 use Rattle.systems.specs.Reduced.{cancellationOf, size, Reduced}
-use Rattle.systems.proofs.Factors.{factorLaws, factor-noOwnInverse, same-element, value-irreducible}
+use Rattle.systems.proofs.Factors.{factorLaws, factor-noOwnInverse, same-factor, value-irreducible}
 use Rattle.systems.proofs.ProductLaws.{multiplied-cons, multiplied-irreducible, freely-reduced-tail}
 
--- a word led by an element y: its first letters are y's, at least half of y and more than any other element can cancel
+-- a word led by a factor y: its first letters are y's, at least half of y and more than any other factor can cancel
 pub record Led {A : Type 0} (G : Alphabet A) (S : List (List A)) (y : Factor) (w : List A) (n : ℕ) : Type 0 where
   pub kept : ℕ
   pub within : kept ≤ size G S y
@@ -26,7 +26,7 @@ pub record Led {A : Type 0} (G : Alphabet A) (S : List (List A)) (y : Factor) (w
   -- the n factors so far leave at least n letters
   pub long : n + kept ≤ suc (length w)
 
--- no factor is its own inverse, so that an element may be its own neighbour
+-- no factor is its own inverse, so that a factor may be its own neighbour
 not-own : (x : Factor) → x ≡ factors .flip x → ⊥
 not-own x e = factor-noOwnInverse x (sym e)
 
@@ -44,15 +44,15 @@ module _ {A : Type 0} (G : Alphabet A) (L : AlphabetLaws G) (S : List (List A)) 
     | no d ↦ reduced .half x y h k d
     | yes e ↦
         let m : cancellationOf G S y y + cancellationOf G S y y < size G S y = reduced .middle y y y k k k (not-own y) (not-own y) in
-        rw (same-element x y e n) (omega arith)
+        rw (same-factor x y e n) (omega arith)
   ]
 
-  -- against a led word as much cancels as against the element that leads it
+  -- against a led word as much cancels as against the factor that leads it
   pub led-cancellation : (x y : Factor) (w : List A) (n : ℕ) → Led G S y w n → NotBlank G S (x .slot) → (x ≡ factors .flip y → ⊥)
       → cancellation G (value G S x) w ≡ cancellationOf G S x y
   led-cancellation x y w n l h d = cancellation-local G L (l .kept) (value G S x) w (value G S y) (l .leads) (l .safe x h d)
 
-  -- an element is led by itself
+  -- a factor is led by itself
   led-self : (y : Factor) → NotBlank G S (y .slot) → Led G S y (value G S y) 1
   led-self y k =
       record {
@@ -64,7 +64,7 @@ module _ {A : Type 0} (G : Alphabet A) (L : AlphabetLaws G) (S : List (List A)) 
         long = omega arith;
       }
 
-  -- a further element in front then leads the product
+  -- a further factor in front then leads the product
   led-more : (x y : Factor) (w : List A) (n : ℕ) → Led G S y w n → Irreducible G w → NotBlank G S (x .slot) → NotBlank G S (y .slot)
       → (x ≡ factors .flip y → ⊥) → Led G S x (freelyReduce G (value G S x ++ w)) (suc n)
   led-more x y w n l i h k d =
@@ -115,7 +115,7 @@ module _ {A : Type 0} (G : Alphabet A) (L : AlphabetLaws G) (S : List (List A)) 
       → (k : ℕ) × (k ≤ size G S f) × (size G S f ≤ 2 * k) × (take k (multiplied G S (f ∷ p)) ≡ take k (value G S f))
   product-begins f p r = let l = product-led f p r in (l .kept, l .within, l .half, l .leads)
 
-  -- any element but the first factor's inverse cancels against the product as it does against the first factor
+  -- any factor but the first factor's inverse cancels against the product as it does against the first factor
   pub product-cancellation : (x f : Factor) (p : List Factor) → FreelyReducedOver G S (f ∷ p) → NotBlank G S (x .slot) → (x ≡ factors .flip f → ⊥)
       → cancellation G (value G S x) (multiplied G S (f ∷ p)) ≡ cancellationOf G S x f
   product-cancellation x f p r h d = led-cancellation x f (multiplied G S (f ∷ p)) (suc (length p)) (product-led f p r) h d

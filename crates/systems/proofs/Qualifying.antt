@@ -19,16 +19,16 @@ use Rattle.systems.specs.Reduced.{AtMostHalf, MiddleKept, cancellationOf
 use Rattle.systems.specs.Rules.{anyBelow, firstHalf, secondHalf, begins, elsewhere, beginsElsewhere, qualifies}
 use Rattle.systems.proofs.Logic.{and-true, and-left, and-right, all-four, four-all, nonzero, or-left, or-right, or-either, not-true-false, true-not-false}
 use Rattle.systems.proofs.Searching.{any-found, any-where, any-nowhere, any-each}
-use Rattle.systems.proofs.Factors.{nonempty-word, word-nonempty, same-element, value-flip, value-length, value-irreducible, notBlank-size, size-notBlank}
+use Rattle.systems.proofs.Factors.{nonempty-word, word-nonempty, same-factor, value-flip, value-length, value-irreducible, notBlank-size, size-notBlank}
 use Rattle.systems.proofs.ProductLaws.{word-slot}
 use Rattle.systems.proofs.Halves.{begins-half, begins-back-half}
 
 module _ {A : Type 0} (G : Alphabet A) where
-  -- an element of another slot than h that begins with the first m letters of w
+  -- a factor of another slot than h that begins with the first m letters of w
   pub record Beginning (S : List (List A)) (h m : ℕ) (w : List A) : Type 0 where
-    pub element : Factor
-    pub apart : element .slot ≡ h → ⊥
-    pub agrees : m ≤ commonPrefix G w (value G S element)
+    pub factor : Factor
+    pub apart : factor .slot ≡ h → ⊥
+    pub agrees : m ≤ commonPrefix G w (value G S factor)
 
   -- "It qualifies if another slot's word or its inverse begins with E1, and another slot's word or its inverse begins with the inverse of E2"
   pub record Qualified (S : List (List A)) (h : ℕ) : Type 0 where
@@ -39,7 +39,7 @@ module _ {A : Type 0} (G : Alphabet A) where
 
 module _ {A : Type 0} (G : Alphabet A) (L : AlphabetLaws G) where
   module _ (S : List (List A)) where
-    -- an element of another slot that begins with u
+    -- a factor of another slot that begins with u
     pub elsewhere-found : (h : ℕ) (u : List A) → beginsElsewhere G S h u ≡ true
         → (x : Factor) × (x .slot ≡ h → ⊥) × (begins G u (value G S x) ≡ true)
     elsewhere-found h u e =
@@ -82,20 +82,20 @@ module _ {A : Type 0} (G : Alphabet A) (L : AlphabetLaws G) where
         record {
           not-blank = nonzero (length w) n-true;
           even = even;
-          at-front = record { element = front .0; apart = front .1; agrees = begins-half G L w (value G S front.0) .0 front.2 };
-          at-back = record { element = back .0; apart = back .1; agrees = begins-back-half G L w (value G S back.0) even .0 back.2 };
+          at-front = record { factor = front .0; apart = front .1; agrees = begins-half G L w (value G S front.0) .0 front.2 };
+          at-back = record { factor = back .0; apart = back .1; agrees = begins-back-half G L w (value G S back.0) even .0 back.2 };
         }
 
-    -- an element that has letters in common with another word is not blank, and so in a slot of the system
-    beginning-word : (h m : ℕ) (w : List A) → 0 < m → (b : Beginning G S h m w) → NotBlank G S (b .element .slot)
-    beginning-word h m w n b = size-notBlank G L S (b .element) (omega (arith, b .agrees, commonPrefix-le-right G L w (value G S (b .element))))
+    -- a factor that has letters in common with another word is not blank, and so in a slot of the system
+    beginning-word : (h m : ℕ) (w : List A) → 0 < m → (b : Beginning G S h m w) → NotBlank G S (b .factor .slot)
+    beginning-word h m w n b = size-notBlank G L S (b .factor) (omega (arith, b .agrees, commonPrefix-le-right G L w (value G S (b .factor))))
 
-    pub beginning-inside : (h m : ℕ) (w : List A) → 0 < m → (b : Beginning G S h m w) → b .element .slot < length S
-    beginning-inside h m w n b = word-slot G L S (b .element .slot) (beginning-word h m w n b)
+    pub beginning-inside : (h m : ℕ) (w : List A) → 0 < m → (b : Beginning G S h m w) → b .factor .slot < length S
+    beginning-inside h m w n b = word-slot G L S (b .factor .slot) (beginning-word h m w n b)
 
-    beginning-elsewhere : (h m : ℕ) (w u : List A) → 0 < m → (b : Beginning G S h m w) → begins G u (value G S (b .element)) ≡ true
+    beginning-elsewhere : (h m : ℕ) (w u : List A) → 0 < m → (b : Beginning G S h m w) → begins G u (value G S (b .factor)) ≡ true
         → beginsElsewhere G S h u ≡ true
-    beginning-elsewhere h m w u n b t = found-elsewhere h u (b .element) (b .apart) (beginning-inside h m w n b) t
+    beginning-elsewhere h m w u n b t = found-elsewhere h u (b .factor) (b .apart) (beginning-inside h m w n b) t
 
     pub qualified-qualifies : (h : ℕ) → Qualified G S h → qualifies G S h ≡ true
     qualified-qualifies h q =
@@ -106,8 +106,8 @@ module _ {A : Type 0} (G : Alphabet A) (L : AlphabetLaws G) where
         let positive : 0 < m = omega (arith, q .not-blank, q .even) in
         let n-true : not (eqb (length w) 0) ≡ true = ap not (ne-eqb (length w) 0 (λ z. omega arith)) in
         let v-true : eqb (length w % 2) 0 ≡ true = eq-eqb (length w % 2) 0 (q .even) in
-        let f-true = beginning-elsewhere h m w (firstHalf G w) positive front (begins-half G L w (value G S (front .element)) .1 (front .agrees)) in
-        let back-begins = begins-back-half G L w (value G S (back .element)) (q .even) .1 (back .agrees) in
+        let f-true = beginning-elsewhere h m w (firstHalf G w) positive front (begins-half G L w (value G S (front .factor)) .1 (front .agrees)) in
+        let back-begins = begins-back-half G L w (value G S (back .factor)) (q .even) .1 (back .agrees) in
         let b-true = beginning-elsewhere h m (inverse G w) (inverse G (secondHalf G w)) positive back back-begins in
         four-all _ _ _ _ n-true v-true f-true b-true
 
@@ -120,13 +120,13 @@ module _ {A : Type 0} (G : Alphabet A) (L : AlphabetLaws G) where
     cancels-after : (y z : Factor) → cancellationOf G S y z ≡ commonPrefix G (value G S (factors .flip y)) (value G S z)
     cancels-after y z = rw (cancellation-commonPrefix G L, value-flip G L S y)
 
-    -- a word that qualifies is wholly cancelled between the two elements that have its halves
+    -- a word that qualifies is wholly cancelled between the two factors that have its halves
     pub qualified-cancellation : (h : ℕ) → Qualified G S h → MiddleKept G S → ⊥
     qualified-cancellation h q middle =
         let w : List A = word G S h in
-        let u : Factor = q .at-front .element in
+        let u : Factor = q .at-front .factor in
         let y : Factor = record { slot = h; inverted = false } in
-        let z : Factor = q .at-back .element in
+        let z : Factor = q .at-back .factor in
         let positive : 0 < length w / 2 = omega (arith, q .not-blank, q .even) in
         let slot-of : Factor → ℕ = λ f. f .slot in
         let u-word = beginning-word h (length w / 2) w positive (q .at-front) in
@@ -142,7 +142,7 @@ module _ {A : Type 0} (G : Alphabet A) (L : AlphabetLaws G) where
           q .even,
         )
 
-    -- the halves of an element, plain or inverted, are the halves of the word of its slot
+    -- the halves of a factor, plain or inverted, are the halves of the word of its slot
     qualified-of : (h : ℕ) (b : Bool) → 0 < length (word G S h) → length (word G S h) % 2 ≡ 0
         → Beginning G S h (length (word G S h) / 2) (value G S (record { slot = h; inverted = b }))
         → Beginning G S h (length (word G S h) / 2) (value G S (record { slot = h; inverted = not b }))
@@ -151,35 +151,35 @@ module _ {A : Type 0} (G : Alphabet A) (L : AlphabetLaws G) where
     qualified-of h true n e p q = record { not-blank = n; even = e; at-front = q; at-back = p }
 
     module _ (noOwnInverse : (x : A) → G .flip x ≡ x → ⊥) (freely : FreelyReduced G S) where
-      -- less than half of an element cancels against the element itself
+      -- less than half of a factor cancels against the factor itself
       pub cancellationOf-self : (y : Factor) → NotBlank G S (y .slot) → 2 * cancellationOf G S y y < size G S y
       cancellationOf-self y n = cancellation-self G L noOwnInverse (value G S y) (value-irreducible G L S y (freely (y .slot)))
           (notBlank-size G L S y n)
 
-      -- where nothing shortens, a neighbour takes at most half of an element, and the whole half only from another slot
+      -- where nothing shortens, a neighbour takes at most half of a factor, and the whole half only from another slot
       before-half : AtMostHalf G S → (x y : Factor) → NotBlank G S (x .slot) → NotBlank G S (y .slot) → (x ≡ factors .flip y → ⊥)
           → (2 * cancellationOf G S x y < size G S y) ⊎ ((x .slot ≡ y .slot → ⊥) × (2 * cancellationOf G S x y ≤ size G S y))
       before-half half x y p q n = elim (ℕ-discrete (x .slot) (y .slot)) [
-        | yes e ↦ inl (rw (same-element x y e n) (cancellationOf-self y q))
+        | yes e ↦ inl (rw (same-factor x y e n) (cancellationOf-self y q))
         | no d ↦ inr (d, half x y p q d .1)
       ]
 
       after-half : AtMostHalf G S → (y z : Factor) → NotBlank G S (y .slot) → NotBlank G S (z .slot) → (z ≡ factors .flip y → ⊥)
           → (2 * cancellationOf G S y z < size G S y) ⊎ ((z .slot ≡ y .slot → ⊥) × (2 * cancellationOf G S y z ≤ size G S y))
       after-half half y z q r n = elim (ℕ-discrete (z .slot) (y .slot)) [
-        | yes e ↦ inl (rw (same-element z y e n) (cancellationOf-self y q))
+        | yes e ↦ inl (rw (same-factor z y e n) (cancellationOf-self y q))
         | no d ↦ inr (d, half y z q r (λ s. d (sym s)) .0)
       ]
 
-      -- so the word of an element that they cancel wholly qualifies
+      -- so the word of a factor that they cancel wholly qualifies
       wholly-qualified : (x y z : Factor) → NotBlank G S (y .slot) → (x .slot ≡ y .slot → ⊥) → (z .slot ≡ y .slot → ⊥)
           → 2 * cancellationOf G S x y ≡ size G S y → 2 * cancellationOf G S y z ≡ size G S y → Qualified G S (y .slot)
       wholly-qualified x y z q d e f g =
           let w : List A = word G S (y .slot) in
           let long : length (value G S y) ≡ length w = value-length G L S y in
           qualified-of (y .slot) (y .inverted) (nonempty-word w q) (omega arith)
-          (record { element = factors .flip x; apart = d; agrees = omega (arith, cancels-before x y) })
-          (record { element = z; apart = e; agrees = omega (arith, cancels-after y z) })
+          (record { factor = factors .flip x; apart = d; agrees = omega (arith, cancels-before x y) })
+          (record { factor = z; apart = e; agrees = omega (arith, cancels-after y z) })
 
       -- where nothing shortens and no word qualifies, the second condition holds
       pub unqualified-kept : AtMostHalf G S → ((h : ℕ) → Qualified G S h → ⊥) → MiddleKept G S

@@ -107,7 +107,7 @@ module _ {A : Type 0} (G : Alphabet A) (L : AlphabetLaws G) where
   seam-le-changed form₄ u v = cancellation-le-left G L v (inverse G u)
 
   module _ (S : List (List A)) where
-    -- what cancels in a form is what cancels between two elements
+    -- what cancels in a form is what cancels between two factors
     pub seam-cancels : (form : Form) (i k : ℕ) → seam G form (word G S i) (word G S k)
         ≡ cancellationOf G S (record { slot = i; inverted = otherSign form }) (record { slot = k; inverted = changedSign form })
     seam-cancels form₁ i k = refl
@@ -127,7 +127,7 @@ module _ {A : Type 0} (G : Alphabet A) (L : AlphabetLaws G) where
     pub cancels-seam : (x y : Factor) → cancellationOf G S x y ≡ seam G (formOf (x .inverted) (y .inverted)) (word G S (x .slot)) (word G S (y .slot))
     cancels-seam x y = formed-signs (x .inverted) (y .inverted) (x .slot) (y .slot)
 
-    -- two elements cancel as much as their inverses in the other order
+    -- two factors cancel as much as their inverses in the other order
     pub cancels-flips : (x y : Factor) → cancellationOf G S x y ≡ cancellationOf G S (factors .flip y) (factors .flip x)
     cancels-flips x y = cancellation-inverses G L (value G S x) (value G S y) ∙ rw (value-flip G L S x, value-flip G L S y)
 
@@ -244,7 +244,7 @@ module _ {A : Type 0} (G : Alphabet A) (L : AlphabetLaws G) where
             half x y (a .other-word) (a .changed-word) (λ q. s .distinct (sym q)) .0,
           )
 
-      -- where nothing shortens, at most half of any element cancels against an element of another slot, blank or not
+      -- where nothing shortens, at most half of any factor cancels against a factor of another slot, blank or not
       keeps-half : ((m : Move) → Shortens G S m → ⊥) → (x y : Factor) → (x .slot ≡ y .slot → ⊥) → 2 * cancellationOf G S x y ≤ size G S x
       keeps-half n x y d =
           let m : Move = record { changed = y .slot; form = formOf (x .inverted) (y .inverted); other = x .slot } in

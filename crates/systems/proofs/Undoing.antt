@@ -74,7 +74,7 @@ module _ {A : Type 0} (G : Alphabet A) where
   pub madeAll-snoc : (S : List (List A)) (ms : List Move) (m : Move) → madeAll G S (ms ++ (m ∷ [])) ≡ made G (madeAll G S ms) m
   madeAll-snoc S ms m = madeAll-append S ms (m ∷ [])
 
-  -- to undo a row of moves is to make the row that takes it back
+  -- to undo a list of moves is to make the list that takes it back
   pub undoneAll-back : (S : List (List A)) (ms : List Move) → undoneAll G S ms ≡ madeAll G S (back ms)
   undoneAll-back S [] = refl
   undoneAll-back S (m ∷ ms) = rw (madeAll-snoc S (back ms) (undo m), undoneAll-back S ms)
@@ -120,12 +120,12 @@ module _ {A : Type 0} (G : Alphabet A) (L : AlphabetLaws G) where
   pub undone-made : (S : List (List A)) (m : Move) → FreelyReduced G S → Apart m → made G (undone G S m) m ≡ S
   undone-made S m h a = rw (undoing-twice (m .form)) at (made-undone S (undo m) h a)
 
-  -- a row of moves made, then undone from the last to the first
+  -- a list of moves made, then undone from the last to the first
   pub madeAll-undone : (S : List (List A)) (ms : List Move) → FreelyReduced G S → AllApart ms → undoneAll G (madeAll G S ms) ms ≡ S
   madeAll-undone S [] h a = refl
   madeAll-undone S (m ∷ ms) h a = rw (madeAll-undone (made G S m) ms (made-freelyReduced S m h) a.1) (made-undone S m h a.0)
 
-  -- undone only back to move i, the row leaves what its first i moves had made
+  -- undone only back to move i, the list leaves what its first i moves had made
   pub madeAll-undone-to : (S : List (List A)) (ms : List Move) (i : ℕ) → FreelyReduced G S → AllApart ms
       → undoneAll G (madeAll G S ms) (drop i ms) ≡ madeAll G S (take i ms)
   madeAll-undone-to S ms i h a =
@@ -134,7 +134,7 @@ module _ {A : Type 0} (G : Alphabet A) (L : AlphabetLaws G) where
       ap (madeAll G S) (sym (take-append-drop i ms)) ∙ madeAll-append G S (take i ms) (drop i ms) in
       rw e (madeAll-undone halfway (drop i ms) (madeAll-freelyReduced S (take i ms) h) (apart-drop i ms a))
 
-  -- a row of moves undone, then made again
+  -- a list of moves undone, then made again
   pub undoneAll-made : (S : List (List A)) (ms : List Move) → FreelyReduced G S → AllApart ms → madeAll G (undoneAll G S ms) ms ≡ S
   undoneAll-made S [] h a = refl
   undoneAll-made S (m ∷ ms) h a = rw (undone-made (undoneAll G S ms) m (undoneAll-freelyReduced S ms h) a.0) (undoneAll-made S ms h a.1)

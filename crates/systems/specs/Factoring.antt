@@ -12,18 +12,18 @@ use Rattle.systems.specs.Products.{Factor, factors, value}
 use Rattle.systems.specs.Rules.{first, anyBelow, begins, ends, firstHalf, secondHalf}
 
 module _ {A : Type 0} (G : Alphabet A) where
-  -- the two elements of a slot: its word, then the inverse
+  -- the two factors of a slot: its word, then the inverse
   abbrev pub eitherOf : (Factor → Bool) → ℕ → Option Factor
   eitherOf test k =
       let plain : Factor = record { slot = k; inverted = false } in
       let turned : Factor = record { slot = k; inverted = true } in
       cond (test plain) (some plain) (cond (test turned) (some turned) none)
 
-  -- an element of which more than half begins the word
+  -- a factor of which more than half begins the word
   abbrev pub bigEnd : List (List A) → List A → Factor → Bool
   bigEnd S w x = ltb (length (value G S x)) (2 * commonPrefix G (value G S x) w)
 
-  -- some other element, not x, ends with the second half of x
+  -- some other factor, not x, ends with the second half of x
   abbrev pub endsOther : List (List A) → Factor → ℕ → Bool
   endsOther S x k =
       let plain : Factor = record { slot = k; inverted = false } in
@@ -31,7 +31,7 @@ module _ {A : Type 0} (G : Alphabet A) where
       not (factors .same plain x) && ends G (secondHalf G (value G S x)) (value G S plain)
       || not (factors .same turned x) && ends G (secondHalf G (value G S x)) (value G S turned)
 
-  -- an element of even length whose first half begins the word, and with whose second half another element ends
+  -- a factor of even length whose first half begins the word, and with whose second half another factor ends
   abbrev pub halfStart : List (List A) → List A → Factor → Bool
   halfStart S w x =
       not (eqb (length (value G S x)) 0) && eqb (length (value G S x) % 2) 0 && begins G (firstHalf G (value G S x)) w

@@ -1,4 +1,4 @@
--- Moves on systems of words, made and undone.
+-- Moves on systems of words, made and undone. A move is an elementary Nielsen transformation.
 use Prim.Native.Nat.{ℕ}
 use mathlib.Core.List.{List, [], _∷_, _++_}
 use lib.ListN.{set}
@@ -54,12 +54,12 @@ module _ {A : Type 0} (G : Alphabet A) where
   abbrev pub undone : List (List A) → Move → List (List A)
   undone S m = made S (undo m)
 
-  -- the system after a row of moves, the first made first
+  -- the system after a list of moves, the first made first
   abbrev pub madeAll : List (List A) → List Move → List (List A)
   madeAll S [] = S
   madeAll S (m ∷ ms) = madeAll (made S m) ms
 
-  -- the system before a row of moves: "Backward undoes the last move first."
+  -- the system before a list of moves: "Backward undoes the last move first."
   abbrev pub undoneAll : List (List A) → List Move → List (List A)
   undoneAll S [] = S
   undoneAll S (m ∷ ms) = undone (undoneAll S ms) m

@@ -1,4 +1,5 @@
--- Systems of words and products over their slots. A system is a list of words, one for each slot; a product is a finite row of factors.
+-- Systems of words and products over their slots. A system is a tuple of words, one for each slot, and may hold a word twice; here it is a
+-- list. A product is a finite list of factors.
 use Prim.Native.Nat.{ℕ, _<_}
 use mathlib.Core.Path.{_≡_}
 use mathlib.Core.Logic.{_↔_}

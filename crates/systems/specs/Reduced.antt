@@ -8,15 +8,15 @@ use Rattle.words.specs.Words.{cancellation}
 use Rattle.systems.specs.Products.{Factor, NotBlank, factors, value}
 
 module _ {A : Type 0} (G : Alphabet A) where
-  -- how much two elements cancel
+  -- how much two factors cancel
   abbrev pub cancellationOf : List (List A) → Factor → Factor → ℕ
   cancellationOf S x y = cancellation G (value G S x) (value G S y)
 
-  -- how long an element is
+  -- how long a factor is
   abbrev pub size : List (List A) → Factor → ℕ
   size S x = length (value G S x)
 
-  -- "for two elements of its words and inverses that stand in different slots, no product of them cancels more than half of either"; an
+  -- "for two elements of its words and inverses that stand in different slots, no product of them cancels more than half of either". An
   -- element is a factor whose slot is not blank: "Blank slots are passed over."
   abbrev pub AtMostHalf : List (List A) → Type 0
   AtMostHalf S =

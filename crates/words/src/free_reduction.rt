@@ -10,7 +10,7 @@ use crate::letters::flip;
 // Puts one more letter after the freely reduced word at the beginning of a buffer, and answers the new length.
 pub fn push_last(stack: &mut [u8], n: usize, x: u8) -> usize
     requires room { ⌜ n < length (now stack) ⌝ }
-    requires tidy { ⌜ freelyReduce bytes (take n (now stack)) ≡ take n (now stack) ⌝ }
+    requires freely { ⌜ freelyReduce bytes (take n (now stack)) ≡ take n (now stack) ⌝ }
     ensures longer { λ r. ⌜ r ≤ n + 1 ⌝ }
     ensures word { λ r. ⌜ take r (now (stack .exit)) ≡ freelyReduce bytes (take n (now (stack .entry)) ++ (x ∷ [])) ⌝ }
 {

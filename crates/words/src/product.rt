@@ -39,7 +39,7 @@ fn append_rest(stack: &mut [u8], n: usize, inverted: bool, word: &[u8], c: usize
 // Multiplies the freely reduced word at the beginning of a buffer by another or its inverse from the right, and answers the new length.
 pub fn push_signed(stack: &mut [u8], n: usize, inverted: bool, word: &[u8]) -> usize
     requires room { ⌜ n + length (now word) ≤ length (now stack) ⌝ }
-    requires tidy { ⌜ freelyReduce bytes (take n (now stack)) ≡ take n (now stack) ⌝ }
+    requires freely { ⌜ freelyReduce bytes (take n (now stack)) ≡ take n (now stack) ⌝ }
     requires word { ⌜ freelyReduce bytes (now word) ≡ now word ⌝ }
     ensures longer { λ r. ⌜ r ≤ n + length (now (word .entry)) ⌝ }
     ensures product { λ r. ⌜ take r (now (stack .exit)) ≡ freelyReduce bytes (take n (now (stack .entry)) ++ signed bytes inverted (now (word .entry))) ⌝ }

@@ -1,4 +1,4 @@
--- `factoring::factor` meets its contract. The invariant: the letters of the factors taken off are in the row, and the others are
+-- `factoring::factor` meets its contract. The invariant: the letters of the factors taken off are in the list, and the others are
 -- those of the product that is left.
 use Prim.Native.Nat.{_≤_, _-_}
 use mathlib.Core.Logic.{⊎-elim}
@@ -11,11 +11,11 @@ use Rattle.factoring.proofs.factor.Statement.{statement}
 use Rattle.factoring.proofs.factor.Tie as tie
 
 abbrev Inv-loop : tie.InvT-loop
-Inv-loop word₀ start n letters lengths row₀ size₀ count₀ word row size count =
-    (size ≤ 63) × (count ≤ 63) × (length word ≡ 64) × (length row ≡ 64) × Left (held n letters lengths) (take start word₀) word size row count
+Inv-loop word₀ start n letters lengths list₀ size₀ count₀ word list size count =
+    (size ≤ 63) × (count ≤ 63) × (length word ≡ 64) × (length list ≡ 64) × Left (held n letters lengths) (take start word₀) word size list count
 
 abbrev μ-loop : tie.MeasureT-loop
-μ-loop word₀ start n letters lengths row₀ size₀ count₀ word row size count = 63 - count
+μ-loop word₀ start n letters lengths list₀ size₀ count₀ word list size count = 63 - count
 
 loop-holds : tie.Need-loop-holds Inv-loop μ-loop
 loop-holds c = search (left-begin, needs)
@@ -45,8 +45,8 @@ take-off-requires c κs =
 factor-byte-requires : tie.Need-factor-byte-requires Inv-loop μ-loop
 factor-byte-requires c κs = search (lead-slot, needs)
 
-slice-write-row : tie.Need-slice-write-row Inv-loop μ-loop
-slice-write-row c = search needs
+slice-write-list : tie.Need-slice-write-list Inv-loop μ-loop
+slice-write-list c = search needs
 
 add-count : tie.Need-add-count Inv-loop μ-loop
 add-count c = search needs
@@ -82,7 +82,7 @@ factor-spec =
     enum-told
     take-off-requires
     factor-byte-requires
-    slice-write-row
+    slice-write-list
     add-count
     loop-less
     loop-again

@@ -1,4 +1,4 @@
--- `leading::ends_elsewhere` meets its contract. The invariant: no other element of a slot passed ends with the second half.
+-- `leading::ends_elsewhere` meets its contract. The invariant: no other factor of a slot passed ends with the second half.
 use Prim.Native.Nat.{_≤_, _-_}
 use mathlib.Core.Bool.{false}
 use mathlib.Core.Path.{_≡_}
