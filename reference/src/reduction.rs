@@ -12,7 +12,7 @@ use crate::words::Word;
 type Slots = u16;
 
 /// The search for moves, which remembers for each pair of slots what it has found out.
-/// A pair tried in vain is passed over until one of its two words changes, so that the move found
+/// A pair that was tried and failed is passed over until one of its two words changes, so that the move found
 /// is still the first of the order.
 #[derive(Default)]
 pub struct Search {

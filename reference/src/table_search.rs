@@ -18,7 +18,7 @@ struct Table {
     lengths: [usize; MOST_RECORDS],
     count: usize,
     /// For each slot k and each slot i, whether no form of i shortens k.
-    in_vain: [[bool; MOST_RECORDS]; MOST_RECORDS],
+    failed: [[bool; MOST_RECORDS]; MOST_RECORDS],
     /// The slot changed last: no slot before it is shortened by another than this.
     last: usize,
 }
@@ -41,12 +41,9 @@ impl Table {
             letters: [[0; RECORD]; MOST_RECORDS],
             lengths: [0; MOST_RECORDS],
             count: given.count(),
-            in_vain: [[false; MOST_RECORDS]; MOST_RECORDS],
+            failed: [[false; MOST_RECORDS]; MOST_RECORDS],
             last: 0,
         };
-        for slot in 0..MOST_RECORDS {
-            table.in_vain[slot][slot] = true;
-        }
         for (slot, letters) in given.letters().iter().enumerate() {
             table.lengths[slot] = free_reduction(letters, &mut table.letters[slot]);
         }
@@ -73,7 +70,7 @@ impl Table {
                 0..self.count
             };
             for other in others {
-                if self.in_vain[changed][other] {
+                if self.failed[changed][other] || other == changed {
                     continue;
                 }
                 let (word, by) = (self.word(changed), self.word(other));
@@ -90,9 +87,9 @@ impl Table {
                     most = most.max(count);
                 }
                 let both = 2 * most <= word.len();
-                self.in_vain[changed][other] = true;
+                self.failed[changed][other] = true;
                 if both {
-                    self.in_vain[other][changed] = true;
+                    self.failed[other][changed] = true;
                 }
             }
         }
@@ -168,11 +165,10 @@ impl Table {
         }
         self.lengths[step.changed] = kept + rest;
         let blank = kept + rest == 0;
-        self.in_vain[step.changed] = [blank; MOST_RECORDS];
-        for row in &mut self.in_vain {
+        self.failed[step.changed] = [blank; MOST_RECORDS];
+        for row in &mut self.failed {
             row[step.changed] = blank;
         }
-        self.in_vain[step.changed][step.changed] = true;
         self.last = step.changed;
     }
 

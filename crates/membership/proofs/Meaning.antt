@@ -36,7 +36,7 @@ use Rattle.slots.proofs.RoundTrip.{system-length}
 use Rattle.slots.proofs.Systems.{loaded-freelyReduced, room-fits, system-few}
 use Rattle.moves.specs.Logs.{moveSize}
 use Rattle.multiply.specs.Multiply.{multiplyRules, multiplyTests, productWord}
-use Rattle.multiply.specs.Targets.{hasSlot, slotRule}
+use Rattle.multiply.specs.SlotLetters.{hasSlot, slotRule}
 use Rattle.runs.specs.Runs.{roomFor}
 use Rattle.reduction.specs.Meaning.{Reduces}
 use Rattle.reduction.specs.Reduction.{reductionOf}
@@ -129,9 +129,6 @@ module _ (s t words log product : List ℕ) (passed : memberChecked s t words lo
   module _ (a : Reduction) (words′ log′ product′ : List ℕ) (answered : a ≡ memberAnswer s t words log product)
       (wrote : words′ ≡ memberWords s t words log product) (logged : log′ ≡ memberLog s t words log product)
       (gave : product′ ≡ memberProduct s t words log product) where
-    product-new : product′ ≡ productAfter (memberFound s t words log product) product
-    product-new = gave ∙ ap (λ (c : Checked). onFine c (productAfter (memberFound s t words log product) product) product) passed
-
     abbrev T : List (List ℕ)
     T = runWords s (roomFor log)
 
@@ -180,7 +177,8 @@ module _ (s t words log product : List ℕ) (passed : memberChecked s t words lo
         let short : length p ≤ 63 = found-short T t freely reduced p e in
         let named : Named (λ k. k < 26) p = found-named T t freely reduced p e (rw (left-length s (roomFor log)) (system-few s system)) in
         let product-is : take 64 product′ ≡ recordOf (map factorByte p) =
-        ap (take 64) (product-new ∙ ap (λ (o : Option (List Factor)). productAfter o product) e)
+        ap (take 64) (gave ∙ ap (λ (c : Checked). onFine c (productAfter (memberFound s t words log product) product) product) passed
+        ∙ ap (λ (o : Option (List Factor)). productAfter o product) e)
         ∙ written-take (recordOf (map factorByte p)) product 64 (product-length p short named) in
         let back : productOf (take 64 product′) ≡ p = ap productOf product-is ∙ product-back p short named in
         record {

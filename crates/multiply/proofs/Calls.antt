@@ -21,7 +21,7 @@ use Rattle.slots.specs.Systems.{slots}
 use Rattle.slots.proofs.Systems.{record-length, room-enough, system-size}
 use Rattle.words.proofs.Buffers.{front-short}
 use Rattle.multiply.specs.Multiply.{multiplyRules, multiplyTests, productWord}
-use Rattle.multiply.specs.Targets.{slotRule}
+use Rattle.multiply.specs.SlotLetters.{slotRule}
 
 -- what the tests leave, and the whole answer
 module _ (s p : List ℕ) (room : ℕ) {x : Checked} (tests : x ≡ multiplyTests s p room) where

@@ -27,13 +27,12 @@ use Rattle.multiply.specs.Multiply.{productWord}
 -- the list is multiplied by the word of the slot that a letter names
 module _ (b n k : ℕ) (letters lengths u : List ℕ) (named : k ≡ factorOf b .slot) (inside : factorOf b .slot < n)
     (mine : u ≡ heldWord letters lengths k) where
-  factor-word : u ≡ word bytes (held n letters lengths) (factorOf b .slot)
-  factor-word = mine ∙ sym (held-word n k letters lengths (omega arith)) ∙ ap (word bytes (held n letters lengths)) named
-
   -- a capital stands for the inverse
   pub factor-pushed : {x : List ℕ} (v : List ℕ) → x ≡ freelyReduce bytes (v ++ signed bytes (ltb b 97) u)
       → x ≡ freelyReduce bytes (v ++ value bytes (held n letters lengths) (factorOf b))
-  factor-pushed v told = told ∙ ap (λ (w : List ℕ). freelyReduce bytes (v ++ signed bytes (ltb b 97) w)) factor-word
+  factor-pushed v told =
+      told ∙ ap (λ (w : List ℕ). freelyReduce bytes (v ++ signed bytes (ltb b 97) w))
+      (mine ∙ sym (held-word n k letters lengths (omega arith)) ∙ ap (word bytes (held n letters lengths)) named)
 
   pub factor-reduced : Held n letters lengths → freelyReduce bytes u ≡ u
   factor-reduced here = held-reduced letters lengths u n k here (omega arith) mine

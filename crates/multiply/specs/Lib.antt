@@ -1,2 +1,2 @@
-pub mod Targets
+pub mod SlotLetters
 pub mod Multiply

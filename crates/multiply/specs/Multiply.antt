@@ -14,7 +14,7 @@ use Rattle.records.specs.declared.answers.Checked.{Checked}
 use Rattle.records.specs.Refusals.{must, _andThen_, targetRules}
 use Rattle.slots.specs.Refusals.{systemRules, wordRoom}
 use Rattle.slots.specs.Factors.{productOf}
-use Rattle.multiply.specs.Targets.{slotRule}
+use Rattle.multiply.specs.SlotLetters.{slotRule}
 
 -- what a product over a system multiplies out to
 unfoldable pub productWord : List ℕ → List ℕ → List ℕ

@@ -6,15 +6,14 @@ ghost use lib.ListN.{length, take};
 ghost use Rattle.words.specs.Alphabet.{bytes};
 ghost use Rattle.words.specs.Words.{freelyReduce};
 ghost use Rattle.systems.specs.Products.{multiplied, value};
-ghost use Rattle.systems.specs.Reduced.{size};
 ghost use Rattle.records.specs.declared.answers.Checked.the-variants.{Fine};
 ghost use Rattle.slots.specs.Factors.{factorOf, productOf};
 ghost use Rattle.slots.specs.Held.{Held, held};
 ghost use Rattle.slots.specs.Systems.{slots};
 ghost use Rattle.multiply.specs.Multiply.{multiplyAnswer, multiplyBuffer, multiplyTests, productWord};
-ghost use Rattle.multiply.specs.Targets.{slotRule};
-use crate::target::check_slots;
-use crate::target::slot_of;
+ghost use Rattle.multiply.specs.SlotLetters.{slotRule};
+use crate::letters::check_slots;
+use crate::letters::slot_of;
 use records::answers::Answer;
 use records::answers::Checked;
 use records::answers::answer_of;
@@ -29,7 +28,7 @@ use slots::held::load;
 use slots::held::word_at;
 use words::product::push_signed;
 
-pub mod target;
+pub mod letters;
 
 // Multiplies a product out over the words of a system and writes the word as a record into the lent buffer.
 pub fn multiply(system: &[u8], product: &[u8], word: &mut [u8]) -> Answer

@@ -82,10 +82,6 @@ unfolding lettersRule stopsRule
 no-letter [] at e = refl
 no-letter (b ∷ r) at e = elim (ℕ-discrete b 46) [ yes s ↦ rw s | no n ↦ rw (e, ne-eqb b 46 n) ]
 
-stop-passed : (b : ℕ) (r : List ℕ) (at : ℕ) → b ≡ 46 → stopsRule (b ∷ r) at ≡ stopsRule r (at + 1)
-unfolding stopsRule
-stop-passed b r at e = rw e
-
 first-of : (s : List ℕ) (i : ℕ) → getD (take (length s - i) (drop i s)) 0 0 ≡ getD s i 0
 first-of s i = ap (λ (r : List ℕ). getD r 0 0) (rest-part s i) ∙ getD-drop i s 0 0 ∙ ap (λ (k : ℕ). getD s k 0) (add-zero i)
 
@@ -119,9 +115,8 @@ module _ (s : List ℕ) (at : ℕ) where
     stops-end l = rw (here, drop-of-length-le s l)
 
     pub stops-more : i < length s → getD s i 0 ≡ 46 → stopsRule s at ≡ stopsRule (drop (i + 1) s) (at + (i + 1))
-    stops-more inside e =
-        here ∙ ap (λ (r : List ℕ). stopsRule r (at + i)) (drop-here s i inside)
-        ∙ stop-passed (getD s i 0) (drop (i + 1) s) (at + i) e ∙ ap (stopsRule (drop (i + 1) s)) (next-place at i)
+    unfolding stopsRule
+    stops-more inside e = rw (here, drop-here s i inside, e, next-place)
 
     pub stops-rest : {r : Checked} → r ≡ stopsRule (take (length s - i) (drop i s)) (at + i) → r ≡ stopsRule s at
     stops-rest h = h ∙ ap (λ (l : List ℕ). stopsRule l (at + i)) (rest-part s i) ∙ sym here

@@ -1,7 +1,7 @@
 -- The calls reduce and test: their tests and answers, and the rank of words held in arrays.
 use Prim.Native.Nat.{_*_, _+_, _<_, _≤_, ℕ}
 use mathlib.Core.Bool.{Bool}
-use mathlib.Core.List.{List, []}
+use mathlib.Core.List.{List}
 use mathlib.Core.Path.{_∙_, _≡_, ap, sym}
 use native.Mathlib.Decide.{ℕ-discrete}
 use native.Mathlib.Nat.{le-antisymm}
@@ -34,12 +34,10 @@ use Rattle.reduction.specs.declared.reduce.Summary.{Summary}
 
 -- the rank of the first words
 module _ (letters lengths : List ℕ) (n k count : ℕ) (here : count ≡ rank (held k letters lengths)) where
-  empty-length : getD lengths k 0 ≡ 0 → heldWord letters lengths k ≡ []
-  empty-length e = ap (λ (m : ℕ). take m (drop (k * 64) letters)) e
-
   rank-skip : getD lengths k 0 ≡ 0 → count ≡ rank (held (k + 1) letters lengths)
   rank-skip e =
-      here ∙ sym (ap (λ (m : ℕ). rank (held m letters lengths)) (add-one k) ∙ rank-blank (held k letters lengths) (heldWord letters lengths k) (empty-length e))
+      here ∙ sym (ap (λ (m : ℕ). rank (held m letters lengths)) (add-one k) ∙ rank-blank (held k letters lengths) (heldWord letters lengths k)
+      (ap (λ (m : ℕ). take m (drop (k * 64) letters)) e))
 
   rank-count : k < n → n ≤ 16 → length letters ≡ 1024 → (getD lengths k 0 ≡ 0 → ⊥) → count + 1 ≡ rank (held (k + 1) letters lengths)
   rank-count inside few wide full =

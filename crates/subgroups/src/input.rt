@@ -1,6 +1,5 @@
 // Standard input, read to its end: its first bytes are kept, and all are counted.
 ghost use Prim.Native.Nat.{_≤_};
-ghost use Rattle.systems.specs.Reduced.{size};
 
 // What reading found: how many bytes, or that a read failed. A size above 65,536 stands for any greater one with the same remainder by 64.
 pub struct Input {

@@ -6,7 +6,7 @@ use borrow.Author.Needs.{needs}
 use Rattle.systems.specs.Reduced.{size}
 use Rattle.slots.specs.Held.{held}
 use Rattle.multiply.proofs.Multiplying.{ReadTo, read-all, read-begin, read-freelyReduced, read-more}
-use Rattle.multiply.proofs.Targets.{slot-inside}
+use Rattle.multiply.proofs.SlotLetters.{slot-inside}
 use Rattle.multiply.proofs.multiply_out.Statement.{statement}
 use Rattle.multiply.proofs.multiply_out.Tie as tie
 

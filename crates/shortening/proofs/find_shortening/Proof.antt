@@ -71,7 +71,16 @@ loop2-less c = search needs
 
 loop2-again : tie.Need-loop2-again Inv-loop2 μ-loop2 Inv-loop μ-loop Inv-search μ-search
 loop2-again c =
-    (search (forms-turn, needs), search needs, search needs, search needs, search needs, search needs)
+    let counted = c .before .before in
+    let tried = counted .before .before .loop2 .inv in
+    let count = counted .seam-of .ensures .0 in (
+      forms-turn _ _ _ _ _ _ _ _ _ _ _ (tried .0) _ _ _ count (tried .2) (tried .1) _ (search needs) (search needs) (search needs),
+      search needs,
+      search needs,
+      search needs,
+      search needs,
+      search needs,
+    )
 
 mul-both : tie.Need-mul-both Inv-loop2 μ-loop2 Inv-loop μ-loop Inv-search μ-search
 mul-both c = search needs

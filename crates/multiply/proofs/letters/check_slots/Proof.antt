@@ -1,14 +1,14 @@
--- `multiply::target::check_slots` meets its contract. The letters from the present one on decide.
+-- `multiply::letters::check_slots` meets its contract. The letters from the present one on decide.
 use Prim.Native.Nat.{_≤_, _-_}
 use mathlib.Core.Path.{_≡_}
 use lib.ListN.{drop}
 use borrow.Author.Needs.{needs}
-use Rattle.multiply.proofs.Targets.{slots-begin, slots-fail, slots-pass, slots-end}
-use Rattle.multiply.specs.Targets.{hasSlot, slotRule}
+use Rattle.multiply.proofs.SlotLetters.{slots-begin, slots-fail, slots-pass, slots-end}
+use Rattle.multiply.specs.SlotLetters.{hasSlot, slotRule}
 use Rattle.records.specs.Records.{wordOf}
 use Rattle.records.specs.Refusals.{eachByte}
-use Rattle.multiply.proofs.target.check_slots.Statement.{statement}
-use Rattle.multiply.proofs.target.check_slots.Tie as tie
+use Rattle.multiply.proofs.letters.check_slots.Statement.{statement}
+use Rattle.multiply.proofs.letters.check_slots.Tie as tie
 
 abbrev Inv-loop : tie.InvT-loop
 Inv-loop n product count i₀ i = (i ≤ count) × (slotRule n product ≡ eachByte (hasSlot n) 9 (drop i (wordOf product)) i)

@@ -1,5 +1,4 @@
--- Records beside a system: the tests of a target or a product, refusals 6 and 9, case by case and letter by letter,
--- and what a record that passes them tells of its length, its rules and the slots that it names.
+-- The letters of a product: refusal 9, letter by letter, and the slots that a product which passes it names.
 use Prim.Native.Nat.{_+_, _-_, _<_, _≤_, suc, zero, ℕ}
 use mathlib.Core.List.{List, [], _∷_, map}
 use mathlib.Core.Path.{_∙_, _≡_, ap, refl, sym}
@@ -15,7 +14,7 @@ use Rattle.records.specs.declared.answers.Checked.{Checked}
 use Rattle.records.specs.declared.answers.Checked.the-variants.{Fine}
 use Rattle.records.proofs.Chains.{fine-first, fine-next, must-fine}
 use Rattle.slots.specs.Factors.{factorOf, productOf}
-use Rattle.multiply.specs.Targets.{hasSlot, slotRule}
+use Rattle.multiply.specs.SlotLetters.{hasSlot, slotRule}
 
 -- the slot that a letter names, by where it stands
 module _ (b : ℕ) where

@@ -1,8 +1,8 @@
--- `multiply::target::slot_of` meets its contract.
+-- `multiply::letters::slot_of` meets its contract.
 use borrow.Author.Needs.{needs}
-use Rattle.multiply.proofs.Targets.{slot-low, slot-capital, slot-small}
-use Rattle.multiply.proofs.target.slot_of.Statement.{statement}
-use Rattle.multiply.proofs.target.slot_of.Tie as tie
+use Rattle.multiply.proofs.SlotLetters.{slot-low, slot-capital, slot-small}
+use Rattle.multiply.proofs.letters.slot_of.Statement.{statement}
+use Rattle.multiply.proofs.letters.slot_of.Tie as tie
 
 returns : tie.Need-returns
 returns c = search (slot-low, needs)

@@ -1,4 +1,4 @@
--- Records beside a system: a target or a product, and the slots that a product names.
+-- The letters of a product: the slots that they name.
 use Prim.Native.Nat.{ℕ}
 use mathlib.Core.Bool.{Bool}
 use mathlib.Core.List.{List}

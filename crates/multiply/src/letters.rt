@@ -1,8 +1,8 @@
-// A target or a product beside a system: refusals 6 and 9, and the slot that a letter names.
+// The letters of a product: the slot that each names, and refusal 9.
 ghost use mathlib.Core.Path.{_≡_};
 ghost use lib.ListN.{length};
 ghost use Rattle.slots.specs.Factors.{factorOf};
-ghost use Rattle.multiply.specs.Targets.{slotRule};
+ghost use Rattle.multiply.specs.SlotLetters.{slotRule};
 use records::answers::Checked;
 use records::answers::refuse;
 use records::record::word_length;
