@@ -30,7 +30,7 @@ use Rattle.words.specs.Buffers.{written}
 use Rattle.slots.specs.Held.{heldWord, held}
 use Rattle.slots.proofs.Holding.{held-word}
 use Rattle.slots.proofs.Systems.{record-length}
-use Rattle.factoring.specs.Factors.{targetWord, productFor, isFound, productAfter}
+use Rattle.factoring.specs.TargetProduct.{targetWord, productFor, isFound, productAfter}
 use Rattle.slots.specs.Factors.{factorByte}
 use Rattle.leading.specs.Leads.{asFactor, leadFactor, LeadBelow}
 use Rattle.leading.specs.declared.Factor.{Factor as CodeFactor}

@@ -1,2 +1,2 @@
-pub mod Factors
+pub mod TargetProduct
 pub mod ProductLetters

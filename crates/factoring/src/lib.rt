@@ -12,7 +12,7 @@ ghost use Rattle.systems.specs.Products.{value};
 ghost use Rattle.slots.specs.Factors.{factorByte};
 ghost use Rattle.slots.specs.Held.{Held, held};
 ghost use Rattle.leading.specs.Leads.{asFactor};
-ghost use Rattle.factoring.specs.Factors.{isFound, productAfter, productFor, targetWord};
+ghost use Rattle.factoring.specs.TargetProduct.{isFound, productAfter, productFor, targetWord};
 ghost use Rattle.factoring.specs.ProductLetters.{lettersIn, productLetters};
 use leading::Factor;
 use leading::Lead;

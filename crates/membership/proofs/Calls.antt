@@ -18,7 +18,7 @@ use Rattle.slots.specs.Held.{held}
 use Rattle.slots.specs.Refusals.{systemRules, wordRoom}
 use Rattle.slots.specs.Systems.{slots}
 use Rattle.slots.proofs.Systems.{room-enough, system-size}
-use Rattle.factoring.specs.Factors.{isFound, productAfter, productFor}
+use Rattle.factoring.specs.TargetProduct.{isFound, productAfter, productFor}
 use Rattle.membership.specs.Membership.{memberTests, verdictOf}
 
 -- what refusals 1 to 5, 6, 10 and 11 tell once they are passed

@@ -18,7 +18,7 @@ use Rattle.slots.specs.Systems.{freelyReducedWords, slots}
 use Rattle.runs.specs.Runs.{roomFor}
 use Rattle.reduction.specs.Reduction.{logAfter, reductionOf, runTests, wordsAfter}
 use Rattle.reduction.specs.declared.answers.Reduction.{Reduction}
-use Rattle.factoring.specs.Factors.{isFound, productAfter, productFor, targetWord}
+use Rattle.factoring.specs.TargetProduct.{isFound, productAfter, productFor, targetWord}
 
 abbrev pub verdictOf : Bool → Verdict
 verdictOf true = Member

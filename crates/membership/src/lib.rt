@@ -6,7 +6,7 @@ ghost use Rattle.words.specs.Buffers.{written};
 ghost use Rattle.records.specs.declared.answers.Checked.the-variants.{Fine};
 ghost use Rattle.slots.specs.Held.{Held, held};
 ghost use Rattle.slots.specs.Systems.{bytesOf};
-ghost use Rattle.factoring.specs.Factors.{isFound, productAfter, productFor, targetWord};
+ghost use Rattle.factoring.specs.TargetProduct.{isFound, productAfter, productFor, targetWord};
 ghost use Rattle.membership.specs.Meaning.{MemberMeans};
 ghost use Rattle.membership.specs.Membership.{memberAnswer, memberLog, memberProduct, memberTests, memberWords, verdictOf};
 use factoring::factor_target;

@@ -1,4 +1,4 @@
--- Records and systems of records, as lists of bytes: the words in them, and the bytes that hold given words.
+-- One record, as a list of bytes: the word in it, and the bytes that hold a given word.
 use Prim.Native.Nat.{_-_, ℕ}
 use mathlib.Core.Bool.{Bool, _&&_, _||_, cond, not}
 use mathlib.Core.List.{List, [], _++_, _∷_}

@@ -4,6 +4,7 @@ mod input;
 
 use crate::input::read_input;
 use membership::member;
+use moves::log::MOVE;
 use records::answers::Verdict;
 use reduction::answers::Reduction;
 
@@ -67,7 +68,11 @@ fn print_reduction(answer: Reduction, is_member: bool, size: usize, words: &[u8]
 
 // The bytes of so many log records, at most those of the log.
 fn log_size(moves: usize, most: usize) -> usize {
-    if moves > most / 4 { most } else { moves * 4 }
+    if moves > most / MOVE {
+        most
+    } else {
+        moves * MOVE
+    }
 }
 
 // Prints the first bytes of a buffer.

@@ -1,4 +1,4 @@
--- The product that a word is over a reduced system, and what it writes.
+-- The product over a reduced system that a target is, and what it writes.
 use Prim.Native.Nat.{ℕ}
 use mathlib.Core.Bool.{Bool, false, true}
 use mathlib.Core.List.{List, map}
