@@ -1,5 +1,5 @@
--- What the search for a half-end move tests. No public contract speaks of these. The first half of a word's inverse is the inverse of its
--- second half.
+-- What the search for a half-end move tests. No public contract speaks of these. The first half of the
+-- inverse of a word of even length is the inverse of its second half.
 use Prim.Native.Nat.{ℕ}
 use mathlib.Core.Bool.{Bool, _||_}
 use mathlib.Core.List.{List}

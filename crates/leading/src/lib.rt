@@ -94,7 +94,7 @@ fn does_lead(
     ends_elsewhere(inverted, n, letters, lengths, k)
 }
 
-// Whether another factor ends with the second half of that of slot k.
+// Whether another factor ends with the second half of that of slot k, its word or, inverted, the inverse.
 fn ends_elsewhere(inverted: bool, n: usize, letters: &[u8], lengths: &[usize], k: usize) -> bool
     requires { ⌜ k < n ⌝ }
     requires { ⌜ Held n (now letters) (now lengths) ⌝ }

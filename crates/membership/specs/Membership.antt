@@ -20,6 +20,7 @@ use Rattle.reduction.specs.Reduction.{logAfter, reductionOf, runTests, wordsAft
 use Rattle.reduction.specs.declared.answers.Reduction.{Reduction}
 use Rattle.factoring.specs.TargetProduct.{isFound, productAfter, productFor, targetWord}
 
+-- whether the target is a member, as the verdict says it
 abbrev pub verdictOf : Bool → Verdict
 verdictOf true = Member
 verdictOf false = NotMember

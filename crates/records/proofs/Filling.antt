@@ -1,4 +1,4 @@
--- Lists of bytes that a loop reads or writes one at a time.
+-- A record written: full stops one at a time, then the word, then the line feed.
 use Prim.Native.Nat.{_+_, _-_, _<_, _≤_, suc, ℕ}
 use mathlib.Core.List.{List, [], _++_, _∷_, append-assoc, append-nil}
 use mathlib.Core.Path.{_∙_, _≡_, ap, sym}

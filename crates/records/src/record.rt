@@ -2,7 +2,6 @@
 ghost use Prim.Native.Nat.{_<_, _≤_};
 ghost use mathlib.Core.Path.{_≡_};
 ghost use lib.ListN.{getD, length, take};
-ghost use Rattle.words.specs.Alphabet.{bytes};
 ghost use Rattle.records.specs.Records.{blanks, isLetter, isLetterOrStop, recordOf, wordOf};
 ghost use Rattle.records.specs.Refusals.{byteRule, lettersRule, recordRules, targetRules};
 ghost use Rattle.records.specs.Stops.{stopsRule};

@@ -70,11 +70,11 @@ module _ (s words log : List ℕ) where
   abbrev pub reduceLog : List ℕ
   reduceLog = logAfter (systemRoom s (length words)) (freelyReducedWords s) (roomFor log) log
 
--- what a reduction came to, with a verdict
+-- what a reduction came to, with a verdict; no public contract speaks of it
 abbrev pub summed : Summary → Verdict → Reduction
 summed z v = record { verdict = v; moves = z .moves; rank = z .rank; independent = eqb (z .rank) (z .given) }
 
--- the same for test
+-- under a refusal test says no. Only a failed check comes here.
 abbrev pub refusedTest : Checked → Tested
 refusedTest Fine = record { verdict = Done; reduced = false }
 refusedTest (Failed f) = record { verdict = Refused f; reduced = false }

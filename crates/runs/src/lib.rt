@@ -75,7 +75,7 @@ fn pass_blank(letters: &[u8], lengths: &[usize], n: usize, c: usize, marks: &mut
     }
 }
 
-// Makes the next move, and takes away the marks of its changed slot.
+// Makes the next move, and takes away the marks of its changed slot, or sets all of them where it is blank now.
 fn advance(letters: &mut [u8], lengths: &mut [usize], n: usize, m: Move, marks: &mut [u8])
     requires { ⌜ Held n (now letters) (now lengths) ⌝ }
     requires { ⌜ length (now marks) ≡ 256 ⌝ }

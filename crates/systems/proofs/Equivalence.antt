@@ -117,7 +117,7 @@ module _ {A : Type 0} (G : Alphabet A) (L : AlphabetLaws G) where
   pub words-freelyReduced : (S : List (List A)) → FreelyReduced G (map (freelyReduce G) S)
   words-freelyReduced S k = rw (reduced-word S k) (freelyReduce-irreducible G L (word G S k))
 
-  -- a tidy system's words are as free reduction leaves them
+  -- the words of a freely reduced system are as free reduction leaves them
   pub freelyReduced-same : (S : List (List A)) → FreelyReduced G S → map (freelyReduce G) S ≡ S
   freelyReduced-same S h = ext-getD [] (map (freelyReduce G) S) S (length-map S (freelyReduce G))
       (λ k q. reduced-word S k ∙ freelyReduce-same G L (word G S k) (h k))

@@ -1,2 +1,2 @@
--- Laws that the proofs of several functions cite.
+-- Laws of the call tidy, which the proofs of several functions cite.
 pub mod Calls

@@ -48,7 +48,7 @@ module _ {A : Type 0} (G : Alphabet A) where
   commonPrefix (x ∷ u) [] = 0
   commonPrefix (x ∷ u) (y ∷ v) = cond (same x y) (suc (commonPrefix u v)) 0
 
-  -- and of their longest common suffix
+  -- and of their longest common suffix; no public contract speaks of it
   abbrev pub commonSuffix : List A → List A → ℕ
   commonSuffix u v = commonPrefix (inverse u) (inverse v)
 

@@ -1,5 +1,4 @@
 -- `membership::member_records` meets its contract: a call that fails its tests changes no buffer, and `decide` does the rest.
--- The laws of each way out are in Calls.antt.
 use borrow.Author.Needs.{needs}
 use Rattle.records.proofs.Chains.{then-failed, unchanged}
 use Rattle.reduction.proofs.Calls.{answer-refused}
