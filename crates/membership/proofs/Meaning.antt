@@ -1,6 +1,7 @@
 -- What the answer of member means: with enough room lent the call is not refused, the words left generate the same words as the given ones,
 -- and the search for a product over them decides. A product that it finds has at most 63 factors, and comes back from its record.
 use Prim.Native.Nat.{_*_, _+_, _<_, _≤_, ℕ}
+use mathlib.Core.Bool.{Bool, false, true}
 use mathlib.Core.List.{List, [], _∷_, map}
 use mathlib.Core.Logic.{_⊎_, inl, inr}
 use mathlib.Core.Option.{Option, none, some}
@@ -20,7 +21,7 @@ use Rattle.systems.proofs.Ending.{every-run-ends}
 use Rattle.systems.proofs.ProductLaws.{Named, over-named, overWords-over, word-slot, words-named}
 use Rattle.systems.proofs.Membership.{factored-freely, factored-length, factored-only, factored-sound, generated-none, some-generated}
 use Rattle.systems.proofs.Logic.{option-cases}
-use Rattle.records.specs.Answers.{onFine}
+use Rattle.records.specs.Answers.{onFine, refusalNumber}
 use Rattle.records.specs.declared.answers.Checked.{Checked}
 use Rattle.records.specs.declared.answers.Checked.the-variants.{Failed, Fine}
 use Rattle.records.specs.declared.answers.Verdict.{Verdict}
@@ -41,7 +42,7 @@ use Rattle.runs.specs.Runs.{roomFor}
 use Rattle.reduction.specs.Meaning.{Reduces}
 use Rattle.reduction.specs.Reduction.{reductionOf}
 use Rattle.reduction.specs.declared.answers.Reduction.{Reduction}
-use Rattle.reduction.proofs.Meaning.{enough-passes, left-back, left-equivalent, left-freelyReduced, left-length, left-reduced, ran-ended, ran-reduces, ran-tests, ran-words, runWords}
+use Rattle.reduction.proofs.Meaning.{enough-passes, left-back, left-equivalent, left-freelyReduced, left-length, left-reduced, ran-ended, ran-reduces, ran-tests, ran-words, runWords, short-means}
 use Rattle.factoring.specs.TargetProduct.{isFound, productAfter, productFor, targetWord}
 use Rattle.membership.specs.Meaning.{Answered, Decides, EnoughRoom, MemberMeans}
 use Rattle.membership.specs.Membership.{memberAnswer, memberChecked, memberFound, memberLog, memberProduct, memberTests, memberWords, verdictOf}
@@ -199,15 +200,19 @@ module _ (s t words log product : List ℕ) (passed : memberChecked s t words lo
     means : Means
     means = elim (option-cases (memberFound s t words log product)) [ inl e ↦ missed e | inr f ↦ hit f.0 f.1 ]
 
--- with enough room the call passes
-room-passes : (s t words log product : List ℕ) → EnoughRoom s t words log product → memberChecked s t words log product ≡ Fine
+-- with room for the words and the product the call passes its tests before the run
+tests-pass : (s t : List ℕ) (room productRoom : ℕ) → systemRules s ≡ Fine → targetRules t ≡ Fine → slots s * 64 ≤ room → 64 ≤ productRoom
+    → memberTests s t room productRoom ≡ Fine
 unfolding memberTests
-room-passes s t words log product room =
-    enough-passes s log (memberTests s t (length words) (length product)) (room .enoughMoves)
-    (rw (room .system, room .targetFits, room-fits (slots s * 64) (length words) (room .wordsFit), le-leb 64 (length product) (room .productFits)))
-    (room .noMoreMoves) (room .logFits)
+tests-pass s t room productRoom system target fits product =
+    rw (system, target, room-fits (slots s * 64) room fits, le-leb 64 productRoom product)
 
--- the answer of member and what it wrote into the three buffers mean what the owner demands
+-- no verdict on a target is a refusal
+verdict-unrefused : (b : Bool) → refusalNumber (verdictOf b) ≡ 0
+verdict-unrefused true = refl
+verdict-unrefused false = refl
+
+-- the answer of member and what it wrote into the three buffers mean what is demanded of them
 pub member-means : (s t words log product : List ℕ) (a : Reduction) (words′ log′ product′ : List ℕ) → a ≡ memberAnswer s t words log product
     → words′ ≡ memberWords s t words log product → log′ ≡ memberLog s t words log product → product′ ≡ memberProduct s t words log product
     → MemberMeans s t words log product a words′ log′ product′
@@ -217,7 +222,15 @@ member-means s t words log product a words′ log′ product′ answered wrote l
       answered =
           λ room.
           verdict-cases (a .verdict) (memberFound s t words log product)
-          (verdict-is s t words log product (room-passes s t words log product room) a answered);
+          (verdict-is s t words log product
+          (enough-passes s log (memberTests s t (length words) (length product)) (room .enoughMoves)
+          (tests-pass s t (length words) (length product) (room .system) (room .targetFits) (room .wordsFit) (room .productFits)) (room .noMoreMoves) (room .logFits))
+          a answered);
+      logShort =
+          λ system target fits productFits enough ended.
+          short-means s log (memberTests s t (length words) (length product))
+          (tests-pass s t (length words) (length product) system target fits productFits) enough ended (verdictOf (isFound (memberFound s t words log product)))
+          (verdict-unrefused (isFound (memberFound s t words log product))) a log′ answered logged;
       decides =
           λ told.
           let passed = answered-fine _ _ (freelyReducedWords s) (roomFor log) (rw answered at told) in

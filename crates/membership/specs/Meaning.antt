@@ -1,4 +1,4 @@
--- What the answer of member means, over the lent buffers alone: the third demand of the owner.
+-- What the answer of member means, over the lent buffers alone: the third demand of docs/REQUIREMENTS.md.
 use Prim.Native.Nat.{ℕ, _*_, _≤_}
 use mathlib.Core.Path.{_≡_}
 use mathlib.Core.Logic.{_↔_, _⊎_}
@@ -7,7 +7,8 @@ use lib.ListN.{length, take}
 use Rattle.words.specs.Alphabet.{bytes}
 use Rattle.words.specs.Words.{freelyReduce}
 use Rattle.systems.specs.Products.{Factor, Generated, FreelyReducedOver, multiplied}
-use Rattle.slots.specs.Systems.{slots, systemOf}
+use Rattle.systems.specs.Rules.{movesWithin}
+use Rattle.slots.specs.Systems.{freelyReducedWords, slots, systemOf}
 use Rattle.records.specs.Records.{wordOf}
 use Rattle.slots.specs.Refusals.{systemRules}
 use Rattle.records.specs.declared.answers.Checked.the-variants.{Fine}
@@ -16,11 +17,11 @@ use Rattle.moves.specs.Logs.{moveSize}
 use Rattle.slots.specs.Factors.{productOf}
 use Rattle.records.specs.Refusals.{targetRules}
 use Rattle.multiply.specs.Multiply.{multiplyRules}
-use Rattle.reduction.specs.Meaning.{EnoughMoves, Reduces}
+use Rattle.reduction.specs.Meaning.{EnoughMoves, LogShort, Reduces}
 use Rattle.reduction.specs.declared.answers.Reduction.{Reduction}
 
 -- "in well-formed records with enough room lent for all results": 64 bytes of word buffer for each record, 64 bytes of product buffer,
--- "and in the log buffer room for one log record for each move that the rules above make on S"; that no byte of these three lies in
+-- "and in the log buffer room for one log record for each move that the rules make on S"; that no byte of these three lies in
 -- another buffer is what lending them mutably means
 pub record EnoughRoom (given target words log product : List ℕ) : Type 0 where
   pub system : systemRules given ≡ Fine
@@ -56,10 +57,12 @@ pub record Decides (given target W L P : List ℕ) (answer : Reduction) : Type 0
 abbrev pub Answered : Reduction → Type 0
 Answered answer = (answer .verdict ≡ Member) ⊎ (answer .verdict ≡ NotMember)
 
--- the moves that the rules make are finitely many; wherever there is room for them and for all else, the target is answered; and every such
--- answer decides: W, L and P are what member wrote
+-- the moves that the rules make are finitely many; wherever there is room for them and for all else, the target is answered; where there is
+-- room for all but the moves, the call is refused with 13; and every answer decides: W, L and P are what member wrote
 pub record MemberMeans (given target words log product : List ℕ) (answer : Reduction) (words′ log′ product′ : List ℕ) : Type 0 where
   pub finite : (enough : ℕ) × EnoughMoves given enough
   pub answered : EnoughRoom given target words log product → Answered answer
+  pub logShort : systemRules given ≡ Fine → targetRules target ≡ Fine → slots given * 64 ≤ length words → 64 ≤ length product
+      → (enough : ℕ) → EnoughMoves given enough → LogShort (movesWithin bytes enough (freelyReducedWords given)) log log′ answer
   pub decides : Answered answer
       → Decides given target (take (slots given * 64) words′) (take (answer .moves * moveSize) log′) (take 64 product′) answer

@@ -15,6 +15,7 @@ use records::answers::Verdict;
 use records::answers::check_that;
 use records::record::RECORD;
 use records::record::check_target;
+use records::refusals::PRODUCT_BUFFER_SHORT;
 use reduction::answers::Reduction;
 use reduction::reduce::answer_with;
 use reduction::reduce::reduce_held;
@@ -135,5 +136,9 @@ fn check_member(system: &[u8], target: &[u8], room: usize, product: usize) -> Ch
     let Checked::Fine = roomy else {
         return roomy;
     };
-    check_that(product >= RECORD, 11)
+    let product_roomy = check_that(product >= RECORD, PRODUCT_BUFFER_SHORT, 0);
+    let Checked::Fine = product_roomy else {
+        return product_roomy;
+    };
+    Checked::Fine
 }

@@ -125,7 +125,7 @@ logOf-passes n ms all =
     (λ j h.
     let inside : j < length ms = omega (arith, logOf-count ms) in
     must-pass _ 8 (j * moveSize) (logOf-valid ms j inside d n (all-at n ms j d all inside))) in
-    sym (log-even n (logOf ms) even (sym each))
+    log-even n (logOf ms) even each
 
 -- the moves of a run lie between slots of its system
 pub valid-between : (S : List (List ℕ)) (ms : List Move) → ValidMoves bytes S ms → AllBetween (length S) ms

@@ -55,14 +55,9 @@ module _ (n : ℕ) (log : List ℕ) (j : ℕ) where
             move-apart h = rw (changed, le-leb _ _ low, le-leb _ _ high, other, eq-eqb _ _ ended, ne-eqb _ _ h)
 
 -- refusals 7 and 8
-module _ (n : ℕ) (log : List ℕ) where
-  pub log-uneven : {x : Checked} → (length log % moveSize ≡ 0 → ⊥) → x ≡ refusal 7 0 → x ≡ logRules n log
-  unfolding logRules
-  log-uneven bad e = rw (ne-eqb _ _ bad, e)
-
-  pub log-even : {x : Checked} → length log % moveSize ≡ 0 → x ≡ eachBelow (moveRule n log) (length log / moveSize) → x ≡ logRules n log
-  unfolding logRules
-  log-even even e = rw (eq-eqb _ _ even, e)
+pub log-even : (n : ℕ) (log : List ℕ) → length log % moveSize ≡ 0 → eachBelow (moveRule n log) (length log / moveSize) ≡ Fine → logRules n log ≡ Fine
+unfolding logRules
+log-even n log even e = rw (eq-eqb _ _ even, e)
 
 -- what the bytes of a move tell
 record Told (n k d i : ℕ) : Type 0 where

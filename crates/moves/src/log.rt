@@ -9,7 +9,9 @@ ghost use Rattle.moves.specs.Found.{moveOf};
 ghost use Rattle.moves.specs.Logs.{isMove, logRecord, logRules, moveAt, moveRule, moveSize, namesSlot};
 use crate::found::Move;
 use records::answers::Checked;
-use records::answers::refuse;
+use records::answers::check_that;
+use records::refusals::LOG_RECORD_MALFORMED;
+use records::refusals::LOG_UNEVEN;
 
 // The bytes of a log record.
 pub const MOVE: usize = 4;
@@ -67,9 +69,10 @@ fn is_move(n: usize, log: &[u8], j: usize) -> bool
 pub fn check_log(n: usize, log: &[u8]) -> Checked
     ensures { λ r. ⌜ r ≡ logRules n (now (log .entry)) ⌝ }
 {
-    if log.len() % MOVE != 0 {
-        return refuse(7, 0);
-    }
+    let even = check_that(log.len() % MOVE == 0, LOG_UNEVEN, 0);
+    let Checked::Fine = even else {
+        return even;
+    };
     check_moves(n, log, log.len() / MOVE)
 }
 
@@ -80,10 +83,10 @@ fn check_moves(n: usize, log: &[u8], m: usize) -> Checked
 {
     let mut j = 0;
     while j < m {
-        let valid = is_move(n, log, j);
-        if !valid {
-            return refuse(8, j * MOVE);
-        }
+        let checked = check_that(is_move(n, log, j), LOG_RECORD_MALFORMED, j * MOVE);
+        let Checked::Fine = checked else {
+            return checked;
+        };
         j += 1;
     }
     Checked::Fine

@@ -3,16 +3,18 @@ use Prim.Native.Nat.{_+_, _-_, _<_, _≤_, suc, zero, ℕ}
 use mathlib.Core.List.{List, [], _∷_, map}
 use mathlib.Core.Path.{_∙_, _≡_, ap, refl, sym}
 use native.Mathlib.Omega.{arith}
+use lib.Dec.{ltb}
 use lib.ListN.{drop, drop-of-length-le, getD, length, take}
 use lib.Seq.{getD-take, length-take-le}
 use borrow.Author.Tests.{le-ltb, lt-ltb, ltb-true}
 use Rattle.words.proofs.Buffers.{drop-here}
 use Rattle.systems.proofs.ProductLaws.{Named}
 use Rattle.records.specs.Records.{wordOf}
-use Rattle.records.specs.Refusals.{eachByte, must, refusal}
+use Rattle.records.specs.Refusals.{eachByte, must}
 use Rattle.records.specs.declared.answers.Checked.{Checked}
-use Rattle.records.specs.declared.answers.Checked.the-variants.{Fine}
-use Rattle.records.proofs.Chains.{fine-first, fine-next, must-fine}
+use Rattle.records.specs.declared.answers.Checked.the-variants.{Failed, Fine}
+use Rattle.records.specs.declared.answers.Refusal.{Refusal}
+use Rattle.records.proofs.Chains.{fine-first, fine-next, must-fine, must-passed, then-failed}
 use Rattle.slots.specs.Factors.{factorOf, productOf}
 use Rattle.multiply.specs.SlotLetters.{hasSlot, slotRule}
 
@@ -40,12 +42,12 @@ module _ (n count i : ℕ) (r : List ℕ) (sized : length r ≡ 64) (short : cou
       drop-here (wordOf r) i (rw counted inside) ∙ ap (λ (b : ℕ). b ∷ drop (i + 1) (wordOf r)) (letter-at inside)
 
   module _ (here : slotRule n r ≡ eachByte (hasSlot n) 9 (drop i (wordOf r)) i) where
-    pub slots-fail : {x : Checked} {k : ℕ} → i < count → k ≡ factorOf (getD r i 0) .slot → n ≤ k → x ≡ refusal 9 i → x ≡ slotRule n r
-    slots-fail inside e bad f = rw (here, letter-here inside, ← e, le-ltb _ _ bad, f)
+    module _ (inside : i < count) {x : Checked} (k : ℕ) (named : k ≡ factorOf (getD r i 0) .slot) (e : x ≡ must (ltb k n) 9 i) where
+      pub slots-fail : {f : Refusal} → x ≡ Failed f → x ≡ slotRule n r
+      slots-fail bad = rw (here, letter-here inside, ← named) (then-failed _ _ e bad)
 
-    pub slots-pass : {k : ℕ} → i < count → k ≡ factorOf (getD r i 0) .slot → k < n
-        → slotRule n r ≡ eachByte (hasSlot n) 9 (drop (i + 1) (wordOf r)) (i + 1)
-    slots-pass inside e good = rw (here, letter-here inside, ← e, lt-ltb _ _ good)
+      pub slots-pass : x ≡ Fine → slotRule n r ≡ eachByte (hasSlot n) 9 (drop (i + 1) (wordOf r)) (i + 1)
+      slots-pass good = rw (here, letter-here inside, ← named, must-passed (ltb k n) 9 i e good)
 
     pub slots-end : count ≤ i → Fine ≡ slotRule n r
     slots-end l = rw (here, drop-of-length-le (wordOf r) {i = i} (omega (arith, counted)))

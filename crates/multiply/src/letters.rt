@@ -4,8 +4,9 @@ ghost use lib.ListN.{length};
 ghost use Rattle.slots.specs.Factors.{factorOf};
 ghost use Rattle.multiply.specs.SlotLetters.{slotRule};
 use records::answers::Checked;
-use records::answers::refuse;
+use records::answers::check_that;
 use records::record::word_length;
+use records::refusals::SLOT_MISSING;
 
 // The slot that a letter of a product names.
 pub fn slot_of(b: u8) -> usize
@@ -28,10 +29,10 @@ pub fn check_slots(n: usize, product: &[u8]) -> Checked
     let count = word_length(product);
     let mut i = 0;
     while i < count {
-        let k = slot_of(product[i]);
-        if k >= n {
-            return refuse(9, i);
-        }
+        let checked = check_that(slot_of(product[i]) < n, SLOT_MISSING, i);
+        let Checked::Fine = checked else {
+            return checked;
+        };
         i += 1;
     }
     Checked::Fine

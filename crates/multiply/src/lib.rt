@@ -22,6 +22,7 @@ use records::record::RECORD;
 use records::record::check_target;
 use records::record::word_length;
 use records::record::write_record;
+use records::refusals::WORD_TOO_LONG;
 use slots::checks::check_room;
 use slots::checks::check_system;
 use slots::held::load;
@@ -41,7 +42,7 @@ pub fn multiply(system: &[u8], product: &[u8], word: &mut [u8]) -> Answer
     };
     let mut list = [0u8; 4096];
     let size = product_word(system, product, &mut list);
-    let fitted = check_that(size <= 63, 12);
+    let fitted = check_that(size <= 63, WORD_TOO_LONG, 0);
     let Checked::Fine = fitted else {
         return answer_of(fitted);
     };
@@ -65,7 +66,11 @@ fn check_multiply(system: &[u8], product: &[u8], room: usize) -> Checked
     let Checked::Fine = slotted else {
         return slotted;
     };
-    check_room(RECORD, room)
+    let roomy = check_room(RECORD, room);
+    let Checked::Fine = roomy else {
+        return roomy;
+    };
+    Checked::Fine
 }
 
 // Multiplies a product out over the words of a system, into a list that may grow to 63 times 63 letters, and answers the word's length.

@@ -29,11 +29,21 @@ then-failed c d e h = rw (← e, h)
 pub then-fine : {q r : Checked} (c d : Checked) → q ≡ c → q ≡ Fine → r ≡ d → r ≡ c andThen d
 then-fine c d e h k = rw (← e, h, k)
 
+pub then-end : {q : Checked} (c : Checked) → q ≡ c → q ≡ Fine → Fine ≡ c
+then-end c e h = sym h ∙ e
+
 pub must-pass : (b : Bool) (n at : ℕ) → b ≡ true → must b n at ≡ Fine
 must-pass b n at e = rw e
 
 pub must-told : {b d : Bool} (n at : ℕ) {x : Checked} → b ≡ d → x ≡ must b n at → x ≡ must d n at
 must-told n at e h = rw (← e) h
+
+pub must-fine : (b : Bool) (n at : ℕ) → must b n at ≡ Fine → b ≡ true
+must-fine true n at e = refl
+must-fine false n at e = let z : _≡_ {A = ℕ} 0 1 = cc in absurd (omega arith)
+
+pub must-passed : (b : Bool) (n at : ℕ) {x : Checked} → x ≡ must b n at → x ≡ Fine → b ≡ true
+must-passed b n at e h = must-fine b n at (sym e ∙ h)
 
 pub must-fail : (b : Bool) (n at : ℕ) {x : Checked} → b ≡ false → x ≡ refusal n at → x ≡ must b n at
 must-fail b n at e h = rw e h
@@ -46,10 +56,6 @@ fine-first (Failed f) d e = e
 pub fine-next : (c d : Checked) → c andThen d ≡ Fine → d ≡ Fine
 fine-next Fine d e = e
 fine-next (Failed f) d e = let z : _≡_ {A = ℕ} 0 1 = cc in absurd (omega arith)
-
-pub must-fine : (b : Bool) (n at : ℕ) → must b n at ≡ Fine → b ≡ true
-must-fine true n at e = refl
-must-fine false n at e = let z : _≡_ {A = ℕ} 0 1 = cc in absurd (omega arith)
 
 -- the answer of a call, and a lent buffer after it, from what its tests found
 pub answered : {x : Checked} {a : Answer} (c : Checked) → x ≡ c → a ≡ answerOf x → a ≡ answerOf c
@@ -78,8 +84,8 @@ module _ (check : ℕ → Checked) where
   each-stays (suc d) k e = rw (suc-add, each-stays d k e)
 
   module _ (k : ℕ) (passed : eachBelow check k ≡ Fine) where
-    pub each-pass : check k ≡ Fine → eachBelow check (k + 1) ≡ Fine
-    each-pass e = rw (add-one, passed, e)
+    pub each-pass : {x : Checked} → x ≡ check k → x ≡ Fine → eachBelow check (k + 1) ≡ Fine
+    each-pass e good = rw (add-one, passed, ← e) good
 
     pub each-fail : {x : Checked} {f : Refusal} (n : ℕ) → k < n → x ≡ check k → x ≡ Failed f → x ≡ eachBelow check n
     each-fail {f = f} n h e bad =

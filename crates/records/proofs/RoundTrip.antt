@@ -8,7 +8,7 @@ use native.Mathlib.Decide.{decLt}
 use native.Mathlib.Omega.{arith}
 use lib.ListN.{getD, length, length-append, length-replicate, length-take, take}
 use lib.Seq.{getD-at, take-at}
-use borrow.Author.Tests.{lt-ltb, ltb-true, ne-eqb}
+use borrow.Author.Tests.{eq-eqb, lt-ltb, ltb-true, ne-eqb}
 use Rattle.words.specs.Alphabet.{bytes, flipByte}
 use Rattle.words.specs.Words.{freelyReduce, inverse, push}
 use Rattle.words.proofs.Alphabet.{byteLaws, flip-down, flip-up, same?}
@@ -18,7 +18,7 @@ use Rattle.records.specs.Records.{beforeStop, blanks, isLetter, isLetter
 use Rattle.records.specs.Refusals.{byteRule, endRule, lettersRule, must, orderRule, recordRules}
 use Rattle.records.specs.declared.answers.Checked.the-variants.{Fine}
 use Rattle.records.proofs.Chains.{fine-first, fine-next, must-fine}
-use Rattle.records.proofs.Rules.{letter-above, letter-below, letter-between, letter-left, letter-passed, record-rest}
+use Rattle.records.proofs.Rules.{letter-above, letter-below, letter-between, letter-left, letter-passed}
 
 -- a word of letters alone
 abbrev pub AllLetters : List ℕ → Type 0
@@ -146,4 +146,5 @@ module _ (w : List ℕ) (short : length w ≤ 63) where
   word-back a = ap beforeStop record-filled ∙ before-back w (63 - length w) a
 
   pub record-passes : (at : ℕ) → AllLetters w → recordRules (recordOf w) at ≡ Fine
-  record-passes at a = sym (record-rest (recordOf w) at record-feed (sym (rw record-filled (word-passed w (63 - length w) at a))))
+  unfolding recordRules
+  record-passes at a = rw (eq-eqb _ _ record-feed, record-filled) (word-passed w (63 - length w) at a)

@@ -1,4 +1,4 @@
--- The tests of document 01 on lists of bytes, as loops make them: the answer of the whole is the answer from the present place on.
+-- The tests of a record on lists of bytes, as loops make them: the answer of the whole is the answer from the present place on.
 use Prim.Native.Nat.{_%_, _+_, _-_, _<_, _≤_, ℕ}
 use mathlib.Core.Bool.{Bool, false, not, true, true≢false}
 use mathlib.Core.List.{List, [], _++_, _∷_, append-assoc, append-nil}
@@ -18,7 +18,7 @@ use Rattle.records.specs.Stops.{stopsRule}
 use Rattle.records.specs.declared.answers.Checked.{Checked}
 use Rattle.records.specs.declared.answers.Checked.the-variants.{Failed, Fine}
 use Rattle.records.specs.declared.answers.Refusal.{Refusal}
-use Rattle.records.proofs.Chains.{fine-first, must-fine, then-failed, then-fine, told-false, told-true}
+use Rattle.records.proofs.Chains.{fine-first, must-fine, must-passed, then-failed, then-fine, told-false, told-true}
 
 -- a byte is a letter or not, by where it stands
 module _ (b : ℕ) where
@@ -65,11 +65,12 @@ module _ (test : ℕ → Bool) (n : ℕ) (s : List ℕ) (at : ℕ) where
     bytes-end l = rw (here, drop-of-length-le s l)
 
     module _ (inside : i < length s) where
-      pub bytes-fail : {r : Checked} → r ≡ refusal n (at + i) → test (getD s i 0) ≡ false → r ≡ eachByte test n s at
-      bytes-fail e bad = rw (here, drop-here s i inside, bad, e)
+      module _ {x : Checked} (e : x ≡ must (test (getD s i 0)) n (at + i)) where
+        pub bytes-fail : {f : Refusal} → x ≡ Failed f → x ≡ eachByte test n s at
+        bytes-fail bad = rw (here, drop-here s i inside) (then-failed _ _ e bad)
 
-      pub bytes-pass : test (getD s i 0) ≡ true → eachByte test n s at ≡ eachByte test n (drop (i + 1) s) (at + (i + 1))
-      bytes-pass good = rw (here, drop-here s i inside, good, next-place)
+        pub bytes-pass : x ≡ Fine → eachByte test n s at ≡ eachByte test n (drop (i + 1) s) (at + (i + 1))
+        bytes-pass good = rw (here, drop-here s i inside, must-passed (test (getD s i 0)) n (at + i) e good, next-place)
 
 -- a letter decides neither rule
 pub letter-passed : (b : ℕ) (r : List ℕ) (at : ℕ) → isLetter b ≡ true → lettersRule (b ∷ r) at ≡ lettersRule r (at + 1)
@@ -163,13 +164,3 @@ module _ (r : List ℕ) (i : ℕ) (here : wordOf r ≡ take i r ++ beforeStop (d
 
   pub word-full : 63 ≤ i → i ≤ 63 → take 63 r ≡ wordOf r
   word-full h l = all-letters 63 i r h l (omega arith) here
-
--- the rules on one record
-module _ (r : List ℕ) (at : ℕ) where
-  pub record-end : {x : Checked} → (getD r 63 0 ≡ 10 → ⊥) → x ≡ refusal 3 (at + 63) → x ≡ recordRules r at
-  unfolding recordRules
-  record-end bad e = rw (ne-eqb _ _ bad, e)
-
-  pub record-rest : {x : Checked} → getD r 63 0 ≡ 10 → x ≡ lettersRule (take (63 - 0) r) at → x ≡ recordRules r at
-  unfolding recordRules
-  record-rest ended e = rw (eq-eqb _ _ ended) e

@@ -14,7 +14,7 @@ verdictNumber Member = 1
 verdictNumber NotMember = 2
 verdictNumber (Refused f) = 3
 
--- the number of a refusal in document 01, and 0 where nothing is refused
+-- the number of a refusal, and 0 where nothing is refused
 abbrev pub refusalNumber : Verdict → ℕ
 refusalNumber Done = 0
 refusalNumber Member = 0

@@ -1,4 +1,4 @@
--- Why a call is refused: the refusals of document 01 on a record, "tested in this order; the first refusal found ends the call at once".
+-- Why a call is refused: the refusals of docs/REQUIREMENTS.md on a record; "the first refusal found ends the call at once".
 use Prim.Native.Nat.{_+_, suc, zero, ℕ}
 use mathlib.Core.Bool.{Bool, cond, false, true}
 use mathlib.Core.List.{List, [], _∷_}

@@ -3,7 +3,7 @@ ghost use mathlib.Core.Path.{_≡_};
 ghost use Rattle.records.specs.Answers.{answerOf};
 ghost use Rattle.records.specs.Refusals.{must};
 
-// A refusal of document 01: its number, and the place that it names.
+// A refusal: its number, and the place that it names.
 pub struct Refusal {
     pub number: u8,
     pub place: usize,
@@ -35,14 +35,14 @@ pub fn refuse(number: u8, place: usize) -> Checked
     Checked::Failed(Refusal { number, place })
 }
 
-// No refusal where a condition holds, and otherwise the one with this number, at place 0.
-pub fn check_that(holds: bool, number: u8) -> Checked
-    ensures { λ r. ⌜ r ≡ must holds number 0 ⌝ }
+// No refusal where a condition holds, and otherwise the one with this number and place.
+pub fn check_that(holds: bool, number: u8, place: usize) -> Checked
+    ensures { λ r. ⌜ r ≡ must holds number place ⌝ }
 {
     if holds {
         Checked::Fine
     } else {
-        refuse(number, 0)
+        refuse(number, place)
     }
 }
 

@@ -3,10 +3,15 @@ ghost use Prim.Native.Nat.{_<_, _≤_};
 ghost use mathlib.Core.Path.{_≡_};
 ghost use lib.ListN.{getD, length, take};
 ghost use Rattle.records.specs.Records.{blanks, isLetter, isLetterOrStop, recordOf, wordOf};
-ghost use Rattle.records.specs.Refusals.{byteRule, lettersRule, recordRules, targetRules};
+ghost use Rattle.records.specs.Refusals.{asSix, byteRule, lettersRule, recordRules, targetRules};
 ghost use Rattle.records.specs.Stops.{stopsRule};
 use crate::answers::Checked;
+use crate::answers::check_that;
 use crate::answers::refuse;
+use crate::refusals::LETTER_AFTER_STOP;
+use crate::refusals::NEITHER_LETTER_NOR_STOP;
+use crate::refusals::NO_LINE_FEED;
+use crate::refusals::TARGET_OR_PRODUCT_MALFORMED;
 use words::letters::copy;
 
 // The bytes of a record, and of one slot of a system.
@@ -43,9 +48,10 @@ pub fn check_record(bytes: &[u8], at: usize) -> Checked
     requires { ⌜ at ≤ 4096 ⌝ }
     ensures { λ r. ⌜ r ≡ recordRules (now (bytes .entry)) at ⌝ }
 {
-    if bytes[63] != LINE_FEED {
-        return refuse(3, at + 63);
-    }
+    let ended = check_that(bytes[63] == LINE_FEED, NO_LINE_FEED, at + 63);
+    let Checked::Fine = ended else {
+        return ended;
+    };
     check_letters(&bytes[0..63], at)
 }
 
@@ -53,14 +59,25 @@ pub fn check_record(bytes: &[u8], at: usize) -> Checked
 pub fn check_target(target: &[u8]) -> Checked
     ensures { λ r. ⌜ r ≡ targetRules (now (target .entry)) ⌝ }
 {
-    if target.len() != 64 {
-        return refuse(6, 0);
-    }
-    let checked = check_record(target, 0);
-    let Checked::Failed(refusal) = checked else {
-        return checked;
+    let sized = check_that(target.len() == RECORD, TARGET_OR_PRODUCT_MALFORMED, 0);
+    let Checked::Fine = sized else {
+        return sized;
     };
-    refuse(6, refusal.place)
+    let checked = check_record(target, 0);
+    let Checked::Fine = checked else {
+        return as_target(checked);
+    };
+    Checked::Fine
+}
+
+// A refusal of a record as refusal 6, at the same place.
+fn as_target(checked: Checked) -> Checked
+    ensures { λ r. ⌜ r ≡ asSix checked ⌝ }
+{
+    match checked {
+        Checked::Fine => Checked::Fine,
+        Checked::Failed(refusal) => refuse(TARGET_OR_PRODUCT_MALFORMED, refusal.place),
+    }
 }
 
 // Refusals 4 and 5 on the bytes before the line feed: first the letters.
@@ -106,7 +123,7 @@ fn check_rest(bytes: &[u8], at: usize) -> Checked
     let Checked::Fine = checked else {
         return checked;
     };
-    refuse(5, at)
+    refuse(LETTER_AFTER_STOP, at)
 }
 
 // Refusal 4: every byte is a letter or a full stop.
@@ -117,11 +134,10 @@ fn check_bytes(bytes: &[u8], at: usize) -> Checked
 {
     let mut i = 0;
     while i < bytes.len() {
-        let fine = is_letter_or_stop(bytes[i]);
-        if !fine {
-            let place = at + i;
-            return refuse(4, place);
-        }
+        let checked = check_that(is_letter_or_stop(bytes[i]), NEITHER_LETTER_NOR_STOP, at + i);
+        let Checked::Fine = checked else {
+            return checked;
+        };
         i += 1;
     }
     Checked::Fine

@@ -1,13 +1,15 @@
--- What the answers of reduce and test mean: their exact definitions, taken with the laws of runs, say what the owner demands of them.
+-- What the answers of reduce and test mean: their exact definitions, taken with the laws of runs, say what is demanded of them.
 -- A run that comes to its end leaves short words of letters, which are read back from the bytes written, and replay takes its log both ways.
-use Prim.Native.Nat.{_*_, _-_, _≤_, ℕ}
-use mathlib.Core.Bool.{false, true}
+use Prim.Native.Nat.{_*_, _-_, _<_, _≤_, ℕ}
+use mathlib.Core.Bool.{Bool, false, true, true≢false}
 use mathlib.Core.List.{List, map}
 use mathlib.Core.Logic.{_↔_}
 use mathlib.Core.Option.{Option, none, some}
 use mathlib.Core.Path.{_∙_, _≡_, ap, refl, sym}
+use native.Mathlib.Decide.{decLt}
 use native.Mathlib.Omega.{arith}
 use lib.ListN.{length, length-map, take}
+use lib.Seq.{length-take-le}
 use borrow.Author.Tests.{eq-eqb, eqb-true}
 use Rattle.words.specs.Alphabet.{bytes}
 use Rattle.words.specs.Buffers.{written}
@@ -21,9 +23,10 @@ use Rattle.systems.specs.Reduced.{Reduced}
 use Rattle.systems.specs.Rules.{movesWithin, next, runWithin}
 use Rattle.systems.proofs.Ending.{every-run-ends}
 use Rattle.systems.proofs.Equivalence.{freelyReduced-same}
-use Rattle.systems.proofs.Neither.{moves-again, next-none, run-ended, run-freelyReduced, run-length, run-valid}
+use Rattle.systems.proofs.Neither.{moves-again, moves-first, moves-fit, moves-over, next-none, run-ended, run-freelyReduced, run-length, run-valid}
 use Rattle.systems.proofs.Runs.{backward, backward-way-within, equivalent, forward-way-within, forward-within, independence-words, reduced}
-use Rattle.records.specs.Answers.{onFine}
+use Rattle.records.specs.Answers.{onFine, refusalNumber}
+use Rattle.records.specs.Refusals.{must}
 use Rattle.records.specs.declared.answers.Checked.{Checked}
 use Rattle.records.specs.declared.answers.Checked.the-variants.{Failed, Fine}
 use Rattle.records.specs.declared.answers.Verdict.{Verdict}
@@ -33,12 +36,12 @@ use Rattle.slots.specs.Refusals.{systemRoom, systemRules}
 use Rattle.slots.specs.Systems.{bytesOf, freelyReducedWords, slots, systemOf}
 use Rattle.slots.proofs.RoundTrip.{AllShort, LetterWords, bytesOf-length, bytesOf-slots, reduced-letters, reduced-short, system-back, system-length, system-passes}
 use Rattle.slots.proofs.Systems.{loaded-freelyReduced, room-fits, system-few}
-use Rattle.moves.specs.Logs.{logOf, logRules, moveSize}
+use Rattle.moves.specs.Logs.{logOf, logRules, moveSize, movesIn}
 use Rattle.moves.proofs.LogBack.{AllBetween, logOf-length, logOf-moves, logOf-passes, valid-between}
 use Rattle.replay.specs.Replay.{replayRules, runRules}
 use Rattle.replay.proofs.Accepting.{replay-accepts, run-accepts}
 use Rattle.runs.specs.Runs.{isNone, roomFor, stopped}
-use Rattle.reduction.specs.Meaning.{EnoughMoves, ReduceMeans, Reduces, TestMeans}
+use Rattle.reduction.specs.Meaning.{EnoughMoves, LogShort, ReduceMeans, Reduces, TestMeans}
 use Rattle.reduction.specs.Reduction.{logAfter, reduceAnswer, reduceLog, reduceTests, reduceWords, reductionOf, runTests, sameRank, testAnswer, testedOf, wordsAfter}
 use Rattle.reduction.specs.declared.answers.Reduction.{Reduction}
 use Rattle.reduction.specs.declared.answers.Tested.{Tested}
@@ -188,7 +191,15 @@ module _ (s : List ℕ) (n : ℕ) (system : systemRules s ≡ Fine) where
         backwardGives = rw (logOf-moves (runMoves s n), left-words) (backward-gives s n);
       }
 
--- a call that ran over the words of a system, as reduce and member do, and passed its tests and 13
+-- a call that ran over the words of a system, as reduce and member do: what it logged
+logged-moves : (s log log′ : List ℕ) (tests : Checked) → tests ≡ Fine → log′ ≡ logAfter tests (freelyReducedWords s) (roomFor log) log
+    → take (length (runMoves s (roomFor log)) * moveSize) log′ ≡ logOf (runMoves s (roomFor log))
+logged-moves s log log′ tests passed logged =
+    let new : log′ ≡ written (logOf (runMoves s (roomFor log))) log =
+    logged ∙ ap (λ (c : Checked). onFine c (written (logOf (runMoves s (roomFor log))) log) log) passed in
+    ap (take (length (runMoves s (roomFor log)) * moveSize)) new ∙ written-take (logOf (runMoves s (roomFor log))) log _ (logOf-length (runMoves s (roomFor log)))
+
+-- and where it passed its tests and 13
 module _ (s log : List ℕ) (tests : Checked) (passed : runTests tests (freelyReducedWords s) (roomFor log) ≡ Fine) where
   pub ran-tests : tests ≡ Fine
   ran-tests = fine-first tests _ passed
@@ -204,13 +215,6 @@ module _ (s log : List ℕ) (tests : Checked) (passed : runTests tests (freelyRe
       wrote ∙ ap (λ (c : Checked). onFine c (written (bytesOf (runWords s (roomFor log))) words) words) passed in
       ap (take (slots s * 64)) new ∙ written-take (bytesOf (runWords s (roomFor log))) words (slots s * 64) (left-bytes s (roomFor log))
 
-  ran-log : (log′ : List ℕ) → log′ ≡ logAfter tests (freelyReducedWords s) (roomFor log) log
-      → take (length (runMoves s (roomFor log)) * moveSize) log′ ≡ logOf (runMoves s (roomFor log))
-  ran-log log′ logged =
-      let new : log′ ≡ written (logOf (runMoves s (roomFor log))) log =
-      logged ∙ ap (λ (c : Checked). onFine c (written (logOf (runMoves s (roomFor log))) log) log) ran-tests in
-      ap (take (length (runMoves s (roomFor log)) * moveSize)) new ∙ written-take (logOf (runMoves s (roomFor log))) log _ (logOf-length (runMoves s (roomFor log)))
-
   -- is what reduce must give, whatever the verdict
   pub ran-reduces : systemRules s ≡ Fine → (v : Verdict) (a : Reduction) (words words′ log′ : List ℕ)
       → a ≡ reductionOf (runTests tests (freelyReducedWords s) (roomFor log)) v (freelyReducedWords s) (roomFor log)
@@ -219,7 +223,7 @@ module _ (s log : List ℕ) (tests : Checked) (passed : runTests tests (freelyRe
   ran-reduces system v a words words′ log′ answered wrote logged =
       let told : a ≡ reductionOf Fine v (freelyReducedWords s) (roomFor log) =
       answered ∙ ap (λ (c : Checked). reductionOf c v (freelyReducedWords s) (roomFor log)) passed in
-      rw (told, ran-words words words′ wrote, ran-log log′ logged) (run-reduces s (roomFor log) system v ran-ended)
+      rw (told, ran-words words words′ wrote, logged-moves s log log′ tests ran-tests logged) (run-reduces s (roomFor log) system v ran-ended)
 
 -- it passes where its tests do and the moves have room
 pub enough-passes : (s log : List ℕ) (tests : Checked) (enough : ℕ) → tests ≡ Fine → EnoughMoves s enough → enough * moveSize ≤ length log
@@ -230,12 +234,57 @@ enough-passes s log tests enough fine ended room =
     none-stopped (runWords s (roomFor log)) (ap (next bytes) (run-ended bytes enough (roomFor log) (freelyReducedWords s) ended few) ∙ ended) in
     rw (fine, stop)
 
+-- a verdict on a run, or 13 where it did not come to its end
+verdict-stopped : (b : Bool) (v : Verdict) (S : List (List ℕ)) (n : ℕ) → refusalNumber v ≡ 0
+    → (refusalNumber (reductionOf (must b 13 0) v S n .verdict) ≡ 13) ↔ (b ≡ false)
+verdict-stopped true v S n unrefused = (λ e. absurd (omega (arith, e, unrefused)), λ e. absurd (true≢false e))
+verdict-stopped false v S n unrefused = (λ e. refl, λ e. refl)
+
+-- a call that passed its tests gets 13 exactly where the moves are more than the log has room for, and the log holds the first of them
+module _ (s log : List ℕ) (tests : Checked) (passed : tests ≡ Fine) (enough : ℕ) (ended : EnoughMoves s enough) where
+  stopped-fit : (stopped (runWords s (roomFor log)) ≡ false) ↔ (roomFor log < length (runMoves s enough))
+  stopped-fit = go (stopped (runWords s (roomFor log))) refl
+    where
+      go : (b : Bool) → stopped (runWords s (roomFor log)) ≡ b → (b ≡ false) ↔ (roomFor log < length (runMoves s enough))
+      go true e =
+          let few = moves-over bytes enough (roomFor log) (freelyReducedWords s) ended (stopped-none (runWords s (roomFor log)) e) in
+          (λ f. absurd (true≢false f), λ h. absurd (omega (arith, few, h)))
+      go false e = (
+        λ f. elim (decLt (roomFor log) (length (runMoves s enough))) [
+          | yes h ↦ h
+          | no h ↦
+              let fit = moves-fit bytes enough (roomFor log) (freelyReducedWords s) ended (omega arith) in
+              absurd (true≢false (sym (none-stopped (runWords s (roomFor log)) fit) ∙ e))
+        ],
+        λ h. refl,
+      )
+
+  pub short-means : (v : Verdict) → refusalNumber v ≡ 0 → (a : Reduction) (log′ : List ℕ)
+      → a ≡ reductionOf (runTests tests (freelyReducedWords s) (roomFor log)) v (freelyReducedWords s) (roomFor log)
+      → log′ ≡ logAfter tests (freelyReducedWords s) (roomFor log) log → LogShort (runMoves s enough) log log′ a
+  short-means v unrefused a log′ answered logged =
+      let told : a ≡ reductionOf (must (stopped (runWords s (roomFor log))) 13 0) v (freelyReducedWords s) (roomFor log) =
+      answered ∙ ap (λ (c : Checked). reductionOf (runTests c (freelyReducedWords s) (roomFor log)) v (freelyReducedWords s) (roomFor log)) passed in
+      let stops = verdict-stopped (stopped (runWords s (roomFor log))) v (freelyReducedWords s) (roomFor log) unrefused in
+      let over : refusalNumber (a .verdict) ≡ 13 → roomFor log < length (runMoves s enough) =
+      λ e. stopped-fit .0 (stops .0 (rw told at e)) in
+      let first : runMoves s (roomFor log) ≡ take (roomFor log) (runMoves s enough) =
+      moves-first bytes enough (roomFor log) (freelyReducedWords s) ended in
+      record {
+        refused = (over, λ h. rw told (stops .1 (stopped-fit .1 h)));
+        firstThatFit =
+            λ e.
+            let count : length (runMoves s (roomFor log)) ≡ roomFor log = ap length first ∙ length-take-le (roomFor log) (runMoves s enough) (omega (arith, over e)) in
+            ap movesIn (ap (λ (k : ℕ). take (k * moveSize) log′) (sym count) ∙ logged-moves s log log′ tests passed logged)
+            ∙ logOf-moves (runMoves s (roomFor log)) ∙ first;
+      }
+
 -- reduce: a call that is done has passed its tests
 reduction-fine : (c : Checked) (S : List (List ℕ)) (n : ℕ) → reductionOf c Done S n .verdict ≡ Done → c ≡ Fine
 reduction-fine Fine S n e = refl
 reduction-fine (Failed f) S n e = let z : _≡_ {A = ℕ} 0 1 = cc in absurd (omega arith)
 
--- the answer of reduce and what it wrote into the two buffers mean what the owner demands
+-- the answer of reduce and what it wrote into the two buffers mean what is demanded of them
 pub reduce-means : (s words log : List ℕ) (a : Reduction) (words′ log′ : List ℕ) → a ≡ reduceAnswer s words log
     → words′ ≡ reduceWords s words log → log′ ≡ reduceLog s words log → ReduceMeans s words log a words′ log′
 unfolding systemRoom
@@ -247,6 +296,9 @@ reduce-means s words log a words′ log′ answered wrote logged =
           ap (λ (r : Reduction). r .verdict) (answered
           ∙ ap (λ (c : Checked). reductionOf c Done (freelyReducedWords s) (roomFor log))
           (enough-passes s log (systemRoom s (length words)) enough (rw (system, room-fits (slots s * 64) (length words) fits)) ended room));
+      logShort =
+          λ system fits enough ended.
+          short-means s log (systemRoom s (length words)) (rw (system, room-fits (slots s * 64) (length words) fits)) enough ended Done refl a log′ answered logged;
       reduces =
           λ done.
           let passed = reduction-fine (reduceTests s words log) (freelyReducedWords s) (roomFor log) (rw answered at done) in

@@ -1,4 +1,4 @@
--- Reduce and test: the rules of document 01 run over a system of records.
+-- Reduce and test: the rules of the moves run over a system of records.
 use Prim.Native.Nat.{ℕ}
 use mathlib.Core.Bool.{Bool, false}
 use mathlib.Core.List.{List}

@@ -18,6 +18,7 @@ use records::answers::Checked;
 use records::answers::Verdict;
 use records::answers::check_that;
 use records::record::RECORD;
+use records::refusals::LOG_BUFFER_SHORT;
 use runs::run;
 use slots::checks::check_system_room;
 use slots::held::load;
@@ -122,7 +123,7 @@ pub fn reduce_held(
         moves: ran.moves,
         given,
         rank,
-        ended: check_that(ran.ended, 13),
+        ended: check_that(ran.ended, LOG_BUFFER_SHORT, 0),
     }
 }
 

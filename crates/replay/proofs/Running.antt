@@ -15,10 +15,11 @@ use Rattle.words.proofs.Below.{below-at, below-drop, below-length}
 use Rattle.systems.specs.Moves.{Move, made, madeAll, movedWord, undoing, undoneAll}
 use Rattle.systems.specs.Rules.{formAt}
 use Rattle.systems.proofs.Undoing.{madeAll-length, madeAll-snoc, undoneAll-length}
-use Rattle.records.specs.Refusals.{eachBelow, must, refusal}
+use Rattle.records.specs.Refusals.{eachBelow, must}
 use Rattle.records.specs.declared.answers.Checked.{Checked}
-use Rattle.records.specs.declared.answers.Checked.the-variants.{Fine}
-use Rattle.records.proofs.Chains.{each-fail, each-pass, must-pass}
+use Rattle.records.specs.declared.answers.Checked.the-variants.{Failed, Fine}
+use Rattle.records.specs.declared.answers.Refusal.{Refusal}
+use Rattle.records.proofs.Chains.{each-fail, each-pass, must-passed}
 use Rattle.moves.specs.Logs.{moveAt, moveSize, movesIn}
 use Rattle.replay.specs.Replay.{directed, placeAt, ranBefore, replayed, runRules, turnRule}
 
@@ -112,18 +113,18 @@ module _ (log : List ℕ) (S : List (List ℕ)) where
           ap₂ (λ (b : Bool) (i : ℕ). must b 12 (i + 1))
           (tried ∙ ap₂ (λ (U : List (List ℕ)) (v : Move). leb (length (movedWord bytes U v)) 63) here same-move) place
 
-      module _ (passed : eachBelow (turnRule backward S log) d ≡ Fine) where
-        pub turn-fails : {x : Checked} → not t ≡ true → x ≡ refusal 12 (at + 1) → x ≡ runRules backward S log
-        turn-fails long e =
-            each-fail (turnRule backward S log) d passed (length log / moveSize) inside (e ∙ sym (sym turn-told ∙ rw (not-true t long))) e
+      module _ {x : Checked} (e : x ≡ must t 12 (at + 1)) where
+        module _ (passed : eachBelow (turnRule backward S log) d ≡ Fine) where
+          pub turn-fails : {f : Refusal} → x ≡ Failed f → x ≡ runRules backward S log
+          turn-fails long = each-fail (turnRule backward S log) d passed (length log / moveSize) inside (e ∙ turn-told) long
 
-        pub turn-passes : not t ≡ false → eachBelow (turnRule backward S log) (d + 1) ≡ Fine
-        turn-passes short = each-pass (turnRule backward S log) d passed (sym turn-told ∙ must-pass t 12 (at + 1) (not-false t short))
+          pub turn-passes : x ≡ Fine → eachBelow (turnRule backward S log) (d + 1) ≡ Fine
+          turn-passes short = each-pass (turnRule backward S log) d passed (e ∙ turn-told) short
 
-      pub turn-makes : (T′ : List (List ℕ)) → (t ≡ true → T′ ≡ made bytes T u) → not t ≡ false
-          → T′ ≡ replayed backward S (ranBefore backward (movesIn log) (d + 1))
-      turn-makes T′ done short =
-          done (not-false t short) ∙ ap₂ (made bytes) here same-move ∙ sym (turn-next backward d inside)
+        pub turn-makes : (T′ : List (List ℕ)) → (t ≡ true → T′ ≡ made bytes T u) → x ≡ Fine
+            → T′ ≡ replayed backward S (ranBefore backward (movesIn log) (d + 1))
+        turn-makes T′ done short =
+            done (must-passed t 12 (at + 1) e short) ∙ ap₂ (made bytes) here same-move ∙ sym (turn-next backward d inside)
 
     -- no move is left
     pub turn-end : length log / moveSize ≤ d → d ≤ length log / moveSize → T ≡ replayed backward S (movesIn log)

@@ -14,8 +14,9 @@ use moves::make::make_move;
 use records::answers::Answer;
 use records::answers::Checked;
 use records::answers::answer_of;
-use records::answers::refuse;
+use records::answers::check_that;
 use records::record::RECORD;
+use records::refusals::WORD_TOO_LONG;
 use slots::checks::check_room;
 use slots::checks::check_system;
 use slots::held::load;
@@ -55,7 +56,11 @@ fn check_replay(system: &[u8], log: &[u8], room: usize) -> Checked
     let Checked::Fine = logged else {
         return logged;
     };
-    check_room(n * RECORD, room)
+    let roomy = check_room(n * RECORD, room);
+    let Checked::Fine = roomy else {
+        return roomy;
+    };
+    Checked::Fine
 }
 
 // Runs the moves of a log, the first one first, or undoes them, the last one first, with refusal 12.
@@ -71,10 +76,10 @@ fn run(log: &[u8], backward: bool, n: usize, letters: &mut [u8], lengths: &mut [
     while done < count {
         let at = place_at(backward, count, done);
         let m = directed(backward, read_move(n, log, at));
-        let fits = make_move(letters, lengths, n, m);
-        if !fits {
-            return refuse(12, at + 1);
-        }
+        let fitted = check_that(make_move(letters, lengths, n, m), WORD_TOO_LONG, at + 1);
+        let Checked::Fine = fitted else {
+            return fitted;
+        };
         done += 1;
     }
     Checked::Fine

@@ -1,4 +1,4 @@
--- Every worked sheet marked P holds, by computation.
+-- Every worked sheet with a label holds, by computation.
 use mathlib.Core.Path.{refl}
 use Rattle.words.specs.Alphabet.{flipByte}
 use Rattle.words.specs.Words.{inverse}
@@ -14,50 +14,16 @@ pub sheets-hold : EachSays sheets
 unfolding flipByte inverse shortening halfEnd next leading recordRules lettersRule systemRules wordRoom freelyReducedWords systemRoom targetRules memberTests
 sheets-hold = (
   (refl, refl),
-  (
-    (refl, refl),
-    (
-      (refl, refl, refl),
-      (
-        (refl, refl, refl),
-        (
-          (refl, refl, refl),
-          (
-            (refl, refl, refl),
-            (
-              (refl, refl, refl),
-              (
-                (refl, refl, refl),
-                (
-                  (refl, refl, refl),
-                  (
-                    (refl, refl),
-                    (
-                      (refl, refl),
-                      (
-                        (refl, refl),
-                        (
-                          (refl, refl),
-                          (
-                            (refl, refl),
-                            (
-                              (refl, refl),
-                              (
-                                (refl, refl),
-                                ((refl, refl), ((refl, refl), tt)),
-                              ),
-                            ),
-                          ),
-                        ),
-                      ),
-                    ),
-                  ),
-                ),
-              ),
-            ),
-          ),
-        ),
-      ),
-    ),
-  ),
+  (refl, refl),
+  ((refl, refl, refl), (refl, refl, refl, refl)),
+  ((refl, refl, refl), (refl, refl, refl, refl)),
+  ((refl, refl, refl), (refl, refl, refl, refl)),
+  ((refl, refl, refl), (refl, refl, refl, refl)),
+  ((refl, refl, refl), (refl, refl, refl, refl)),
+  ((refl, refl, refl), (refl, refl, refl, refl)),
+  ((refl, refl, refl), (refl, refl, refl, refl)),
+  ((refl, refl, refl), (refl, refl, refl, refl)),
+  ((refl, refl, refl), (refl, refl, refl, refl)),
+  (refl, refl, refl),
+  tt,
 )

@@ -1,4 +1,4 @@
--- The worked sheets of document 01 that are marked P, as one list, and what each says over the definitions.
+-- The worked sheets of docs/REQUIREMENTS.md that have a label, as one list, and what each says over the definitions.
 use Prim.Native.Nat.{ℕ, _*_}
 use Prim.Native.String.{String, [] as no-text, _∷_ as _then_}
 use Prim.Native.Char.{code}
@@ -9,9 +9,11 @@ use lib.ListN.{length, replicate}
 use Rattle.records.specs.Records.{recordOf}
 use Rattle.words.specs.Buffers.{written}
 use Rattle.tidy.specs.Tidy.{tidyAnswer, tidyBuffer}
+use Rattle.records.specs.declared.answers.Verdict.{Verdict}
 use Rattle.records.specs.declared.answers.Verdict.the-variants.{Done, Member, NotMember}
 use Rattle.reduction.specs.Reduction.{reduceAnswer, reduceWords, reduceLog}
-use Rattle.membership.specs.Membership.{memberAnswer, memberProduct}
+use Rattle.reduction.specs.declared.answers.Reduction.{Reduction}
+use Rattle.membership.specs.Membership.{memberAnswer, memberLog, memberProduct, memberWords}
 
 -- the bytes of a text
 abbrev pub bytesIn : String → List ℕ
@@ -35,58 +37,84 @@ logIn (m ∷ rest) = bytesIn m ++ (10 ∷ logIn rest)
 abbrev pub lent : ℕ → List ℕ
 lent n = replicate n 63
 
--- a worked sheet
+-- given words, and what comes of them: the log, the reduced words, the rank and the verdict on independence
+pub record Outcome : Type 0 where
+  pub given : List String
+  pub log : List String
+  pub reduced : List String
+  pub rank : ℕ
+  pub independent : Bool
+
+-- a worked sheet, with its label
 pub data Sheet : Type 0 where
   -- a word, and what it freely reduces to
-  tidies : String → String → Sheet
-  -- given words, and the log, the reduced words, the rank and the verdict on independence
-  reduces : List String → List String → List String → ℕ → Bool → Sheet
-  -- given words, a target that is a member, and its product over the reduced words
-  asks : List String → String → String → Sheet
-  -- given words, and a target that is not a member
-  denies : List String → String → Sheet
+  tidies : String → String → String → Sheet
+  -- words to reduce
+  reduces : String → Outcome → Sheet
+  -- words, a target that is a member, and its product over the reduced words
+  member : String → Outcome → String → String → Sheet
+  -- words, and a target that is not a member
+  notMember : String → Outcome → String → Sheet
 
--- what a sheet says, with lent buffers of question marks: enough for the words, and 64 bytes for a log
+-- the answer of reduce or of member, with its verdict
+abbrev pub answer : Outcome → Verdict → Reduction
+answer o v = record { verdict = v; moves = length (o .log); rank = o .rank; independent = o .independent }
+
+-- the lent buffers are of question marks: enough for the words, 64 bytes for the log and 64 for the product
+abbrev pub wordsLent : Outcome → List ℕ
+wordsLent o = lent (64 * length (o .given))
+
+-- what reduce answers and writes
+abbrev pub Reduces : Outcome → Type 0
+Reduces o =
+    (reduceAnswer (systemIn (o .given)) (wordsLent o) (lent 64) ≡ answer o Done)
+    × (reduceWords (systemIn (o .given)) (wordsLent o) (lent 64) ≡ systemIn (o .reduced))
+    × (reduceLog (systemIn (o .given)) (wordsLent o) (lent 64) ≡ written (logIn (o .log)) (lent 64))
+
+-- what member answers and writes: all that reduce does, the verdict, and the product buffer afterwards
+abbrev pub Decides : Outcome → String → Verdict → List ℕ → Type 0
+Decides o target verdict product =
+    (memberAnswer (systemIn (o .given)) (recordIn target) (wordsLent o) (lent 64) (lent 64) ≡ answer o verdict)
+    × (memberWords (systemIn (o .given)) (recordIn target) (wordsLent o) (lent 64) (lent 64) ≡ systemIn (o .reduced))
+    × (memberLog (systemIn (o .given)) (recordIn target) (wordsLent o) (lent 64) (lent 64) ≡ written (logIn (o .log)) (lent 64))
+    × (memberProduct (systemIn (o .given)) (recordIn target) (wordsLent o) (lent 64) (lent 64) ≡ product)
+
+-- what a sheet says
 abbrev pub Says : Sheet → Type 0
-Says (tidies given result) =
+Says (tidies label given result) =
     (tidyAnswer (recordIn given) (lent 64) ≡ record { verdict = Done }) × (tidyBuffer (recordIn given) (lent 64) ≡ recordIn result)
-Says (reduces given log result rank independent) =
-    (reduceAnswer (systemIn given) (lent (64 * length given)) (lent 64)
-    ≡ record { verdict = Done; moves = length log; rank = rank; independent = independent })
-    × (reduceWords (systemIn given) (lent (64 * length given)) (lent 64) ≡ systemIn result)
-    × (reduceLog (systemIn given) (lent (64 * length given)) (lent 64) ≡ written (logIn log) (lent 64))
-Says (asks given target product) =
-    (memberAnswer (systemIn given) (recordIn target) (lent (64 * length given)) (lent 64) (lent 64) .verdict ≡ Member)
-    × (memberProduct (systemIn given) (recordIn target) (lent (64 * length given)) (lent 64) (lent 64) ≡ recordIn product)
-Says (denies given target) =
-    (memberAnswer (systemIn given) (recordIn target) (lent (64 * length given)) (lent 64) (lent 64) .verdict ≡ NotMember)
-    × (memberProduct (systemIn given) (recordIn target) (lent (64 * length given)) (lent 64) (lent 64) ≡ lent 64)
+Says (reduces label o) = Reduces o
+Says (member label o target product) = Reduces o × Decides o target Member (recordIn product)
+Says (notMember label o target) = Reduces o × Decides o target NotMember (lent 64)
 
 -- what every sheet of a list says
 abbrev pub EachSays : List Sheet → Type 0
 EachSays [] = Unit
 EachSays (s ∷ rest) = Says s × EachSays rest
 
--- in this order: P1 and P2; what P3, P4, P5 and P6, P7, P9 and P10, P11 and P12 say of the reduced words; and the targets of P3, P4, P5, P6,
--- P7, P8, P9, P10 and P11
+abbrev pub outcome : List String → List String → List String → ℕ → Bool → Outcome
+outcome given log reduced rank independent =
+    record { given = given; log = log; reduced = reduced; rank = rank; independent = independent }
+
+-- P5 and P6 have the same words, and so have P9 and P10
+abbrev pub threeWords : Outcome
+threeWords = outcome ("ab" ∷ "ac" ∷ "Bd" ∷ []) ("c1a" ∷ []) ("ab" ∷ "ac" ∷ "ad" ∷ []) 3 true
+
+abbrev pub noWords : Outcome
+noWords = outcome [] [] [] 0 true
+
 abbrev pub sheets : List Sheet
 sheets =
-    tidies "aAbBc" "c"
-    ∷ tidies "abBA" ""
-    ∷ reduces ("ab" ∷ "b" ∷ []) ("a4b" ∷ []) ("a" ∷ "b" ∷ []) 2 true
-    ∷ reduces ("aa" ∷ "aaa" ∷ []) ("a2b" ∷ "b1a" ∷ "b1a" ∷ "a1b" ∷ []) ("" ∷ "a" ∷ []) 1 false
-    ∷ reduces ("ab" ∷ "ac" ∷ "Bd" ∷ []) ("c1a" ∷ []) ("ab" ∷ "ac" ∷ "ad" ∷ []) 3 true
-    ∷ reduces ("a" ∷ "BAc" ∷ "dbb" ∷ []) [] ("a" ∷ "BAc" ∷ "dbb" ∷ []) 3 true
-    ∷ reduces [] [] [] 0 true
-    ∷ reduces ("ab" ∷ "ab" ∷ []) ("a2b" ∷ []) ("" ∷ "ab" ∷ []) 1 false
-    ∷ reduces ("aA" ∷ "b" ∷ []) [] ("" ∷ "b" ∷ []) 1 true
-    ∷ asks ("ab" ∷ "b" ∷ []) "a" "a"
-    ∷ asks ("aa" ∷ "aaa" ∷ []) "a" "b"
-    ∷ asks ("ab" ∷ "ac" ∷ "Bd" ∷ []) "Cd" "Bc"
-    ∷ denies ("ab" ∷ "ac" ∷ "Bd" ∷ []) "d"
-    ∷ asks ("a" ∷ "BAc" ∷ "dbb" ∷ []) "adbAcACaBD" "acbABC"
-    ∷ denies ("ab" ∷ []) "ba"
-    ∷ asks [] "" ""
-    ∷ denies [] "a"
-    ∷ asks ("ab" ∷ "ab" ∷ []) "abab" "bb"
+    tidies "P1" "aAbBc" "c"
+    ∷ tidies "P2" "abBA" ""
+    ∷ member "P3" (outcome ("ab" ∷ "b" ∷ []) ("a4b" ∷ []) ("a" ∷ "b" ∷ []) 2 true) "a" "a"
+    ∷ member "P4" (outcome ("aa" ∷ "aaa" ∷ []) ("a2b" ∷ "b1a" ∷ "b1a" ∷ "a1b" ∷ []) ("" ∷ "a" ∷ []) 1 false) "a" "b"
+    ∷ member "P5" threeWords "Cd" "Bc"
+    ∷ notMember "P6" threeWords "d"
+    ∷ member "P7" (outcome ("a" ∷ "BAc" ∷ "dbb" ∷ []) [] ("a" ∷ "BAc" ∷ "dbb" ∷ []) 3 true) "adbAcACaBD" "acbABC"
+    ∷ notMember "P8" (outcome ("ab" ∷ []) [] ("ab" ∷ []) 1 true) "ba"
+    ∷ member "P9" noWords "" ""
+    ∷ notMember "P10" noWords "a"
+    ∷ member "P11" (outcome ("ab" ∷ "ab" ∷ []) ("a2b" ∷ []) ("" ∷ "ab" ∷ []) 1 false) "abab" "bb"
+    ∷ reduces "P12" (outcome ("aA" ∷ "b" ∷ []) [] ("" ∷ "b" ∷ []) 1 true)
     ∷ []

@@ -13,7 +13,7 @@ use Rattle.records.specs.Refusals.{targetRules}
 use Rattle.records.specs.declared.answers.Checked.the-variants.{Fine}
 use Rattle.records.proofs.RoundTrip.{AllLetters, record-passes, word-back}
 use Rattle.records.proofs.Rules.{letter-between}
-use Rattle.records.proofs.Targets.{target-fine}
+use Rattle.records.proofs.Targets.{target-passes}
 use Rattle.slots.specs.Factors.{factorByte, factorOf, productOf}
 use Rattle.slots.proofs.Systems.{record-length}
 
@@ -52,5 +52,4 @@ module _ (p : List Factor) (short : length p ≤ 63) (named : Named (λ k. k < 2
 
   pub product-passes : targetRules (recordOf (map factorByte p)) ≡ Fine
   product-passes =
-      let passes = record-passes (map factorByte p) product-short 0 (product-letters p named) in
-      sym (target-fine (recordOf (map factorByte p)) product-length refl passes) ∙ passes
+      target-passes (recordOf (map factorByte p)) product-length (record-passes (map factorByte p) product-short 0 (product-letters p named))

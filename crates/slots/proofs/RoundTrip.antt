@@ -102,4 +102,4 @@ module _ (ws : List (List ℕ)) (letters : LetterWords ws) (short : AllShort ws)
       let each : eachBelow (slotRules (bytesOf ws)) (length ws) ≡ Fine =
       each-passes (slotRules (bytesOf ws)) (length ws)
       (λ k h. rw (bytesOf-record ws short k h) (record-passes (word bytes ws k) (short k) (k * 64) (letters k))) in
-      sym (system-records (bytesOf ws) even (rw count few) (rw count (sym each)))
+      system-records (bytesOf ws) even (rw count few) (rw count each)

@@ -8,7 +8,7 @@ use native.Mathlib.Omega.{arith}
 use lib.Dec.{eqb, leb}
 use lib.ListN.{drop, getD, length, length-append, length-replicate, set, take}
 use lib.Seq.{drop-at, drop-drop, take-at}
-use borrow.Author.Tests.{eq-eqb, eqb-true, le-leb, leb-true, lt-leb, ne-eqb}
+use borrow.Author.Tests.{eq-eqb, eqb-true, le-leb, leb-true}
 use Rattle.words.specs.Alphabet.{bytes}
 use Rattle.words.specs.Below.{below}
 use Rattle.words.specs.Buffers.{written}
@@ -19,11 +19,11 @@ use Rattle.words.proofs.Stack.{stack-more}
 use Rattle.systems.specs.Products.{FreelyReduced}
 use Rattle.systems.proofs.Equivalence.{words-freelyReduced}
 use Rattle.records.specs.Records.{beforeStop, blanks, recordOf, wordOf}
-use Rattle.records.specs.Refusals.{eachBelow, must, recordRules, refusal}
+use Rattle.records.specs.Refusals.{eachBelow, must, recordRules}
 use Rattle.records.specs.declared.answers.Checked.{Checked}
 use Rattle.records.specs.declared.answers.Checked.the-variants.{Failed, Fine}
 use Rattle.records.specs.declared.answers.Refusal.{Refusal}
-use Rattle.records.proofs.Chains.{fine-first, fine-next, must-fine, then-failed, then-fine}
+use Rattle.records.proofs.Chains.{fine-first, fine-next, must-fine, must-passed}
 use Rattle.records.proofs.Rules.{word-full}
 use Rattle.slots.specs.Held.{Held, Short, held, heldWord}
 use Rattle.slots.specs.Refusals.{slotRules, systemRoom, systemRules, wordRoom}
@@ -41,23 +41,13 @@ pub record-told : {x : Checked} (k : ℕ) (s : List ℕ) → x ≡ recordRules (
     → x ≡ slotRules s k
 record-told k s e = e ∙ ap (λ (r : List ℕ). recordRules r (k * 64)) (slot-part k s)
 
-pub record-passed : {x : Checked} (k : ℕ) (s : List ℕ) → x ≡ recordRules (take (k * 64 + 64 - k * 64) (drop (k * 64) s)) (k * 64)
-    → x ≡ Fine → slotRules s k ≡ Fine
-record-passed k s e h = sym (record-told k s e) ∙ h
+-- refusals 1 to 5: the records are tried where there are at most 16 of them
+pub few-records : {x : Checked} (s : List ℕ) → x ≡ must (leb (length s / 64) 16) 2 0 → x ≡ Fine → length s / 64 ≤ 16
+few-records s e h = leb-true _ _ (must-passed _ 2 0 e h)
 
--- refusals 1 to 5
-module _ (s : List ℕ) where
-  pub system-uneven : {x : Checked} → (length s % 64 ≡ 0 → ⊥) → x ≡ refusal 1 0 → x ≡ systemRules s
-  unfolding systemRules
-  system-uneven bad e = rw (ne-eqb _ _ bad, e)
-
-  pub system-long : {x : Checked} → length s % 64 ≡ 0 → 16 < length s / 64 → x ≡ refusal 2 0 → x ≡ systemRules s
-  unfolding systemRules
-  system-long even bad e = rw (eq-eqb _ _ even, lt-leb _ _ bad, e)
-
-  pub system-records : {x : Checked} → length s % 64 ≡ 0 → length s / 64 ≤ 16 → x ≡ eachBelow (slotRules s) (length s / 64) → x ≡ systemRules s
-  unfolding systemRules
-  system-records even few e = rw (eq-eqb _ _ even, le-leb _ _ few, e)
+pub system-records : (s : List ℕ) → length s % 64 ≡ 0 → length s / 64 ≤ 16 → eachBelow (slotRules s) (length s / 64) ≡ Fine → systemRules s ≡ Fine
+unfolding systemRules
+system-records s even few e = rw (eq-eqb _ _ even, le-leb _ _ few, e)
 
 -- refusal 10
 pub room-fits : (output room : ℕ) → output ≤ room → wordRoom output room ≡ Fine
@@ -183,14 +173,6 @@ room-enough output room e = leb-true _ _ (must-fine _ 10 0 e)
 
 -- refusals 1 to 5, then 10
 module _ (s : List ℕ) (room : ℕ) where
-  pub both-system : {x : Checked} {f : Refusal} → x ≡ systemRules s → x ≡ Failed f → x ≡ systemRoom s room
-  unfolding systemRoom
-  both-system e h = then-failed _ _ e h
-
-  pub both-room : {q x : Checked} → q ≡ systemRules s → q ≡ Fine → x ≡ wordRoom (length s / 64 * 64) room → x ≡ systemRoom s room
-  unfolding systemRoom
-  both-room e h told = then-fine _ _ e h told
-
   module _ {x : Checked} (e : x ≡ systemRoom s room) (h : x ≡ Fine) where
     passed : systemRoom s room ≡ Fine
     passed = sym e ∙ h

@@ -6,21 +6,25 @@ ghost use Rattle.records.specs.Refusals.{eachBelow};
 ghost use Rattle.slots.specs.Refusals.{slotRules, systemRoom, systemRules, wordRoom};
 use records::answers::Checked;
 use records::answers::check_that;
-use records::answers::refuse;
 use records::record::RECORD;
 use records::record::check_record;
+use records::refusals::SYSTEM_UNEVEN;
+use records::refusals::TOO_MANY_RECORDS;
+use records::refusals::WORDS_BUFFER_SHORT;
 
 // Refusals 1 to 5.
 pub fn check_system(system: &[u8]) -> Checked
     ensures { λ r. ⌜ r ≡ systemRules (now (system .entry)) ⌝ }
 {
     let n = system.len() / RECORD;
-    if system.len() % RECORD != 0 {
-        return refuse(1, 0);
-    }
-    if n > 16 {
-        return refuse(2, 0);
-    }
+    let even = check_that(system.len() % RECORD == 0, SYSTEM_UNEVEN, 0);
+    let Checked::Fine = even else {
+        return even;
+    };
+    let few = check_that(n <= 16, TOO_MANY_RECORDS, 0);
+    let Checked::Fine = few else {
+        return few;
+    };
     check_records(system, n)
 }
 
@@ -47,7 +51,7 @@ fn check_records(system: &[u8], n: usize) -> Checked
 pub fn check_room(output: usize, room: usize) -> Checked
     ensures { λ r. ⌜ r ≡ wordRoom output room ⌝ }
 {
-    check_that(output <= room, 10)
+    check_that(output <= room, WORDS_BUFFER_SHORT, 0)
 }
 
 // Refusals 1 to 5, then 10: a system, and room for its words.
@@ -59,5 +63,9 @@ pub fn check_system_room(system: &[u8], room: usize) -> Checked
         return checked;
     };
     let n = system.len() / RECORD;
-    check_room(n * RECORD, room)
+    let roomy = check_room(n * RECORD, room);
+    let Checked::Fine = roomy else {
+        return roomy;
+    };
+    Checked::Fine
 }

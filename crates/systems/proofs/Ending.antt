@@ -1,4 +1,4 @@
--- "Then repeat until neither rule applies" (document 01, 'The moves'): every run comes to its end. A shortening makes the letters fewer in
+-- "Then repeat until neither rule applies" (docs/REQUIREMENTS.md, 'The moves'): every run comes to its end. A shortening makes the letters fewer in
 -- all. A half-end move by slot h leaves no more qualifying words of its length, and fewer factors that begin with the inverse of the second
 -- half of h's word.
 use Prim.Native.Nat.{ℕ, zero, suc, _+_, _*_, _/_, _%_, _≤_, _<_}

@@ -1,4 +1,4 @@
--- Moves keep the subgroup (document 000, section 1). A list of moves on a system does what the same list does on the slots' own letters,
+-- Moves keep the subgroup (Nielsen, section 1). A list of moves on a system does what the same list does on the slots' own letters,
 -- each letter then taken for its word; so a product over the words after the moves becomes one over the words before, and back.
 use Prim.Native.Nat.{ℕ, zero, suc, _+_, _<_}
 use mathlib.Core.Path.{_≡_, refl, sym, ap, _∙_}

@@ -1,4 +1,4 @@
--- The second rule of document 01, 'The moves': the shortest qualifying word is chosen, and where some word qualifies there is a half-end
+-- The second rule of docs/REQUIREMENTS.md, 'The moves': the shortest qualifying word is chosen, and where some word qualifies there is a half-end
 -- move. It keeps the lengths of all words.
 use Prim.Native.Nat.{ℕ, zero, suc, _*_, _/_, _%_, _≤_, _<_}
 use mathlib.Core.Path.{_≡_, refl, sym, ap, _∙_}
@@ -40,7 +40,7 @@ module _ {A : Type 0} (G : Alphabet A) where
     at-beginning : ends G (secondHalf G (word G S h)) (word G S k) ≡ false
         → begins G (inverse G (secondHalf G (word G S h))) (word G S k) ≡ true → EndTaken S h k form₁
 
-  -- a half-end move as document 01 describes it: i = h, the first k except h with one of the two ends
+  -- a half-end move as the rules describe it: i = h, the first k except h with one of the two ends
   pub record HalfEndMove (S : List (List A)) (m : Move) : Type 0 where
     pub shortest : Shortest S (length S) (m .other)
     pub distinct : m .changed ≡ m .other → ⊥
@@ -236,7 +236,7 @@ module _ {A : Type 0} (G : Alphabet A) (L : AlphabetLaws G) where
           | inr r ↦ let f = halfEnd-exists r.0 r.1 in absurd (some-not-none (halfEnd G S) f.0 f.1 e)
         ])
 
-    -- a found half-end move is the one that document 01 describes
+    -- a found half-end move is the one that the rules describe
     pub halfEnd-found : (m : Move) → halfEnd G S ≡ some m → HalfEndMove G S m
     halfEnd-found m e = elim (option-cases (shortestBelow G S (length S))) [
       | inl d ↦ absurd (some-not-none (halfEnd G S) m e (halfEnd-unchosen d))

@@ -1,4 +1,4 @@
--- Independence (document 000, section 2, theorems 2 and 3). Along a list of moves of words that are not blank, a relation of the words
+-- Independence (Nielsen, section 2, theorems 2 and 3). Along a list of moves of words that are not blank, a relation of the words
 -- after the moves goes back to one of the words before them, and the other way round, and a product that cancels over the slots to one
 -- that cancels. So the words at the start are independent exactly when none of them has gone blank, given that those left are.
 use Prim.Native.Nat.{ℕ, zero, suc, _<_}

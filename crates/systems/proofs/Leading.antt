@@ -1,4 +1,4 @@
--- With what a word begins that is a product over a reduced system (document 000, section 3): a big end or a half start of a factor.
+-- With what a word begins that is a product over a reduced system (Nielsen, section 3): a big end or a half start of a factor.
 -- What is found so is the product's first factor, and something is found.
 use Prim.Native.Nat.{ℕ, _+_, _*_, _%_, _≤_, _<_}
 use mathlib.Core.Path.{_≡_, sym, ap, _∙_}

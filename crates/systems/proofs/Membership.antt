@@ -1,4 +1,4 @@
--- Membership (document 000, section 3): factoring a word over a reduced system finds its one freely reduced product, or there is none.
+-- Membership (Nielsen, section 3): factoring a word over a reduced system finds its one freely reduced product, or there is none.
 -- One factor after the other is taken off the word's beginning.
 use Prim.Native.Nat.{ℕ, zero, suc, _≤_, _<_}
 use mathlib.Core.Path.{_≡_, refl, sym, _∙_}

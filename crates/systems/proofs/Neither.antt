@@ -1,10 +1,11 @@
--- "Then repeat until neither rule applies" (document 01, 'The moves'): neither rule applies exactly to the reduced systems. Every move that
+-- "Then repeat until neither rule applies" (docs/REQUIREMENTS.md, 'The moves'): neither rule applies exactly to the reduced systems. Every move that
 -- is made lies between two slots that are not blank and lengthens no word, so a run keeps the words freely reduced and within their bound.
 use Prim.Native.Nat.{ℕ, zero, suc, _+_, _-_, _≤_, _<_}
 use mathlib.Core.Path.{_≡_, refl, sym, ap, _∙_}
 use mathlib.Core.Logic.{_↔_, _⊎_, inl, inr}
 use mathlib.Core.Option.{none, some}
 use mathlib.Core.List.{List, [], _∷_, _++_, append-nil}
+use native.Mathlib.Decide.{decLt}
 use native.Mathlib.Nat.{zero-add, suc-add}
 use native.Mathlib.Omega.{arith}
 use lib.ListN.{length, take}
@@ -130,6 +131,36 @@ module _ {A : Type 0} (G : Alphabet A) where
   moves-full (suc n) S m e = elim (option-cases (next G S)) [
     | inl d ↦ absurd (some-not-none (next G S) m (rw (run-stop (suc n) S d) at e) d)
     | inr r ↦ rw (moves-more n S r.0 r.1) (ap suc (moves-full n (made G S r.0) m (rw (run-more n S r.0 r.1) at e)))
+  ]
+
+  moves-most : (n : ℕ) (S : List (List A)) → length (movesWithin G n S) ≤ n
+  moves-most zero S = omega arith
+  moves-most (suc n) S = elim (option-cases (next G S)) [
+    | inl e ↦ rw (moves-stop (suc n) S e) (omega arith)
+    | inr r ↦ rw (moves-more n S r.0 r.1) (omega (arith, moves-most n (made G S r.0)))
+  ]
+
+  -- after n moves a run has come to its end: with room for k moves it makes the first k, and it comes to its end exactly where all fit
+  module _ (n k : ℕ) (S : List (List A)) (ended : next G (runWithin G n S) ≡ none) where
+    pub moves-over : next G (runWithin G k S) ≡ none → length (movesWithin G n S) ≤ k
+    moves-over e = elim (decLt k n) [
+      | yes h ↦ rw (moves-ended k n S e (omega arith)) (moves-most k S)
+      | no h ↦ omega (arith, moves-most n S)
+    ]
+
+    pub moves-fit : length (movesWithin G n S) ≤ k → next G (runWithin G k S) ≡ none
+    moves-fit h =
+        let again : next G (runWithin G (length (movesWithin G n S)) S) ≡ none = rw (moves-again n S) ended in
+        rw (run-ended (length (movesWithin G n S)) k S again h) again
+
+  pub moves-first : (n k : ℕ) (S : List (List A)) → next G (runWithin G n S) ≡ none → movesWithin G k S ≡ take k (movesWithin G n S)
+  moves-first n zero S ended = refl
+  moves-first zero (suc k) S ended = moves-stop (suc k) S ended
+  moves-first (suc n) (suc k) S ended = elim (option-cases (next G S)) [
+    | inl e ↦ rw (moves-stop (suc k) S e, moves-stop (suc n) S e)
+    | inr r ↦
+        rw (moves-more k S r.0 r.1, moves-more n S r.0 r.1)
+        (ap (_∷_ r.0) (moves-first n k (made G S r.0) (rw (run-more n S r.0 r.1) at ended)))
   ]
 
 module _ {A : Type 0} (G : Alphabet A) (L : AlphabetLaws G) where

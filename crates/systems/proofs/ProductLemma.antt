@@ -1,4 +1,4 @@
--- Nielsen's product lemma (document 000, section 2, theorem 1): in a freely reduced product over a reduced system something of every
+-- Nielsen's product lemma (Nielsen, section 2, theorem 1): in a freely reduced product over a reduced system something of every
 -- factor is left. The proof adds factors in front, one by one, and keeps how much of the first factor leads the word.
 use Prim.Native.Nat.{ℕ, suc, _+_, _-_, _*_, _≤_, _<_}
 use mathlib.Core.Path.{_≡_, refl, sym, ap}

@@ -1,4 +1,4 @@
--- Which words qualify for a half-end move (document 01, 'The moves'): where nothing shortens, some word qualifies exactly where the second
+-- Which words qualify for a half-end move (docs/REQUIREMENTS.md, 'The moves'): where nothing shortens, some word qualifies exactly where the second
 -- condition of a reduced system fails.
 use Prim.Native.Nat.{ℕ, _+_, _*_, _/_, _%_, _≤_, _<_}
 use mathlib.Core.Path.{_≡_, sym, ap}

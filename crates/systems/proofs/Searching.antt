@@ -1,4 +1,4 @@
--- Laws of the two searches that the rules of document 01 are made of: the first found among f 0, f 1, .. below a number, and whether a
+-- Laws of the two searches that the rules of the moves are made of: the first found among f 0, f 1, .. below a number, and whether a
 -- test holds at some number below it. "The first pair and form found in this order is the move made."
 use Prim.Native.Nat.{ℕ, zero, suc, _+_, _<_}
 use mathlib.Core.Path.{_≡_, refl, sym, _∙_}

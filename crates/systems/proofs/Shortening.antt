@@ -1,4 +1,4 @@
--- The first rule of document 01, 'The moves': a move shortens a word exactly when more than half of the other word cancels. So nothing
+-- The first rule of docs/REQUIREMENTS.md, 'The moves': a move shortens a word exactly when more than half of the other word cancels. So nothing
 -- shortens exactly where the first condition of a reduced system holds.
 use Prim.Native.Nat.{ℕ, _+_, _*_, _≤_, _<_}
 use mathlib.Core.Path.{_≡_, refl, sym, ap, _∙_}

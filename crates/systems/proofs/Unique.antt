@@ -1,4 +1,4 @@
--- A reduced system is independent, and every word has at most one freely reduced product over it (document 000, section 2).
+-- A reduced system is independent, and every word has at most one freely reduced product over it (Nielsen, section 2).
 -- The second follows from the first: the inverse of one product, then the other, comes to the empty word.
 use mathlib.Core.Path.{_≡_, sym, _∙_}
 use mathlib.Core.List.{List, [], _++_}

@@ -1,4 +1,4 @@
--- Nielsen-reduced systems of freely reduced words (document 000, section 1, in the words of document 01).
+-- Nielsen-reduced systems of freely reduced words (Nielsen, section 1, in the words of docs/REQUIREMENTS.md).
 use Prim.Native.Nat.{_*_, _+_, _<_, _≤_, ℕ}
 use mathlib.Core.List.{List}
 use mathlib.Core.Path.{_≡_}

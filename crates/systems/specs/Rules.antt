@@ -1,4 +1,4 @@
--- The rules of document 01, 'The moves': which move is made next, and the moves of a whole run. They are read on freely reduced words.
+-- The rules of docs/REQUIREMENTS.md, 'The moves': which move is made next, and the moves of a whole run. They are read on freely reduced words.
 -- "Only slots that are not blank take part": a blank slot neither shortens a word nor is shortened, and a half has at least one letter.
 use Prim.Native.Nat.{ℕ, zero, suc, _/_, _%_}
 use mathlib.Core.Bool.{Bool, false, cond, not, _&&_, _||_}

@@ -1,5 +1,5 @@
 -- What the theory of words asks of its letters: the inverse of the inverse is the letter, and the test says whether
--- two letters are the same. The letters of document 01, as bytes, obey it.
+-- two letters are the same. The letters a to z and their capitals, as bytes, obey it.
 use Prim.Native.Nat.{ℕ, _+_, _-_, _*_, _/_, _%_, _≤_, _<_}
 use mathlib.Core.Path.{_≡_, refl, sym, ap, _∙_}
 use mathlib.Core.Bool.{Bool, true, false, true≢false}

@@ -1,4 +1,4 @@
--- Free reduction (document 004, theorem 1.4): what it leaves is irreducible, it may be done in parts, and its outcome
+-- Free reduction: what it leaves is irreducible, it may be done in parts, and its outcome
 -- doesn't depend on the order of removal. Last come the laws of a stack that takes the letters from either end.
 use Prim.Native.Nat.{suc, _≤_}
 use mathlib.Core.Path.{_≡_, refl, sym, ap, _∙_}
@@ -144,7 +144,7 @@ module _ {A : Type 0} (G : Alphabet A) (L : AlphabetLaws G) where
   removals-freelyReduce (none e) = rw e
   removals-freelyReduce (more r s) = removals-freelyReduce s ∙ removed-freelyReduce r
 
-  -- "the outcome doesn't depend on the order of removal (source document 004, theorem 1.4)"
+  -- "the outcome doesn't depend on the order of removal"
   pub removals-outcome : {w v : List A} → Removals G w v → Irreducible G v → v ≡ freelyReduce G w
   removals-outcome {v = v} r h = sym (freelyReduce-same v h) ∙ removals-freelyReduce r
 

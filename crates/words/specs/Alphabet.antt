@@ -12,6 +12,6 @@ pub record Alphabet (A : Type 0) : Type 0 where
 unfoldable pub flipByte : ℕ → ℕ
 flipByte x = cond (ltb (x % 64) 32) (x + 32) (x - 32)
 
--- the letters of document 01, as bytes
+-- the letters a to z and their capitals, as bytes
 abbrev pub bytes : Alphabet ℕ
 bytes = record { flip = flipByte; same = eqb }

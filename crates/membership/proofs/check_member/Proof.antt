@@ -1,7 +1,7 @@
 -- `membership::check_member` meets its contract: each way out is the first test of memberTests that fails,
 -- and the last way out passes them all.
 use borrow.Author.Needs.{needs}
-use Rattle.records.proofs.Chains.{then-failed, then-fine}
+use Rattle.records.proofs.Chains.{then-end, then-failed, then-fine}
 use Rattle.membership.specs.Membership.{memberTests}
 use Rattle.membership.proofs.check_member.Statement.{statement}
 use Rattle.membership.proofs.check_member.Tie as tie
@@ -17,7 +17,7 @@ enum-told-2 c = search needs
 
 returns : tie.Need-returns
 unfolding memberTests
-returns c = search (then-failed, then-fine, needs)
+returns c = search (then-failed, needs)
 
 check-target-requires : tie.Need-check-target-requires
 check-target-requires c κs = search needs
@@ -51,9 +51,19 @@ returns-3 c = search (then-failed, then-fine, needs)
 check-that-requires : tie.Need-check-that-requires
 check-that-requires c κs = search needs
 
+enum-told-7 : tie.Need-enum-told-7
+enum-told-7 c = search needs
+
+enum-told-8 : tie.Need-enum-told-8
+enum-told-8 c = search needs
+
 returns-4 : tie.Need-returns-4
 unfolding memberTests
 returns-4 c = search (then-failed, then-fine, needs)
+
+returns-5 : tie.Need-returns-5
+unfolding memberTests
+returns-5 c = search (then-fine, then-end, needs)
 
 pub check-member-spec : {M : Type 1} → statement M
 check-member-spec =
@@ -73,4 +83,7 @@ check-member-spec =
     enum-told-6
     returns-3
     check-that-requires
-    returns-4)
+    enum-told-7
+    enum-told-8
+    returns-4
+    returns-5)

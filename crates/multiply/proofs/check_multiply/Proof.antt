@@ -1,6 +1,6 @@
 -- `multiply::check_multiply` meets its contract.
 use borrow.Author.Needs.{needs}
-use Rattle.records.proofs.Chains.{then-failed, then-fine}
+use Rattle.records.proofs.Chains.{then-end, then-failed, then-fine}
 use Rattle.records.proofs.Targets.{target-told}
 use Rattle.multiply.specs.Multiply.{multiplyTests}
 use Rattle.multiply.proofs.check_multiply.Statement.{statement}
@@ -17,7 +17,7 @@ enum-told-2 c = search needs
 
 returns : tie.Need-returns
 unfolding multiplyTests
-returns c = search (then-failed, then-fine, needs)
+returns c = search (then-failed, needs)
 
 check-target-requires : tie.Need-check-target-requires
 check-target-requires c κs = search needs
@@ -48,9 +48,19 @@ returns-3 c = search (then-failed, then-fine, needs)
 check-room-requires : tie.Need-check-room-requires
 check-room-requires c κs = search needs
 
+enum-told-7 : tie.Need-enum-told-7
+enum-told-7 c = search needs
+
+enum-told-8 : tie.Need-enum-told-8
+enum-told-8 c = search needs
+
 returns-4 : tie.Need-returns-4
 unfolding multiplyTests
 returns-4 c = search (then-failed, then-fine, needs)
+
+returns-5 : tie.Need-returns-5
+unfolding multiplyTests
+returns-5 c = search (then-fine, then-end, needs)
 
 pub check-multiply-spec : {M : Type 1} → statement M
 check-multiply-spec =
@@ -69,4 +79,7 @@ check-multiply-spec =
     enum-told-6
     returns-3
     check-room-requires
-    returns-4)
+    enum-told-7
+    enum-told-8
+    returns-4
+    returns-5)

@@ -36,11 +36,17 @@ directed-requires c κs = search needs
 make-move-requires : tie.Need-make-move-requires Inv-loop μ-loop
 make-move-requires c κs = search needs
 
-add-refuse : tie.Need-add-refuse Inv-loop μ-loop
-add-refuse c = search needs
+add-check-that : tie.Need-add-check-that Inv-loop μ-loop
+add-check-that c = search needs
 
-refuse-requires : tie.Need-refuse-requires Inv-loop μ-loop
-refuse-requires c κs = search needs
+check-that-requires : tie.Need-check-that-requires Inv-loop μ-loop
+check-that-requires c κs = search needs
+
+enum-told : tie.Need-enum-told Inv-loop μ-loop
+enum-told c = search needs
+
+enum-told-2 : tie.Need-enum-told-2 Inv-loop μ-loop
+enum-told-2 c = search needs
 
 same-length : tie.Need-same-length Inv-loop μ-loop
 same-length c = search needs
@@ -80,8 +86,10 @@ run-spec =
     read-move-requires
     directed-requires
     make-move-requires
-    add-refuse
-    refuse-requires
+    add-check-that
+    check-that-requires
+    enum-told
+    enum-told-2
     same-length
     same-length-2
     returns

@@ -4,7 +4,7 @@ use mathlib.Core.Path.{_≡_}
 use borrow.Author.Needs.{needs}
 use Rattle.records.specs.Refusals.{eachBelow}
 use Rattle.records.specs.declared.answers.Checked.the-variants.{Fine}
-use Rattle.records.proofs.Chains.{each-end, each-fail, each-pass, must-fail, must-pass, told-false, told-true}
+use Rattle.records.proofs.Chains.{each-end, each-fail, each-pass, must-told}
 use Rattle.moves.specs.Logs.{moveRule}
 use Rattle.moves.proofs.log.check_moves.Statement.{statement}
 use Rattle.moves.proofs.log.check_moves.Tie as tie
@@ -21,14 +21,20 @@ loop-holds c = search needs
 is-move-requires : tie.Need-is-move-requires Inv-loop μ-loop
 is-move-requires c κs = search needs
 
-mul-refuse : tie.Need-mul-refuse Inv-loop μ-loop
-mul-refuse c = search needs
+mul-check-that : tie.Need-mul-check-that Inv-loop μ-loop
+mul-check-that c = search needs
 
-refuse-requires : tie.Need-refuse-requires Inv-loop μ-loop
-refuse-requires c κs = search needs
+check-that-requires : tie.Need-check-that-requires Inv-loop μ-loop
+check-that-requires c κs = search needs
+
+enum-told : tie.Need-enum-told Inv-loop μ-loop
+enum-told c = search needs
+
+enum-told-2 : tie.Need-enum-told-2 Inv-loop μ-loop
+enum-told-2 c = search needs
 
 returns : tie.Need-returns Inv-loop μ-loop
-returns c = search (each-fail, must-fail, told-false, needs)
+returns c = search (each-fail, must-told, needs)
 
 add-j : tie.Need-add-j Inv-loop μ-loop
 add-j c = search needs
@@ -37,7 +43,7 @@ loop-less : tie.Need-loop-less Inv-loop μ-loop
 loop-less c = search needs
 
 loop-again : tie.Need-loop-again Inv-loop μ-loop
-loop-again c = search (each-pass, must-pass, told-true, needs)
+loop-again c = search (each-pass, must-told, needs)
 
 returns-2 : tie.Need-returns-2 Inv-loop μ-loop
 returns-2 c = search (each-end, needs)
@@ -50,8 +56,10 @@ check-moves-spec =
     μ-loop
     loop-holds
     is-move-requires
-    mul-refuse
-    refuse-requires
+    mul-check-that
+    check-that-requires
+    enum-told
+    enum-told-2
     returns
     add-j
     loop-less

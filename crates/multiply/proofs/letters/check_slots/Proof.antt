@@ -1,12 +1,12 @@
 -- `multiply::letters::check_slots` meets its contract. The letters from the present one on decide.
-use Prim.Native.Nat.{_≤_, _-_}
+use Prim.Native.Nat.{_-_, _≤_}
 use mathlib.Core.Path.{_≡_}
 use lib.ListN.{drop}
 use borrow.Author.Needs.{needs}
-use Rattle.multiply.proofs.SlotLetters.{slots-begin, slots-fail, slots-pass, slots-end}
-use Rattle.multiply.specs.SlotLetters.{hasSlot, slotRule}
 use Rattle.records.specs.Records.{wordOf}
 use Rattle.records.specs.Refusals.{eachByte}
+use Rattle.multiply.specs.SlotLetters.{hasSlot, slotRule}
+use Rattle.multiply.proofs.SlotLetters.{slots-begin, slots-end, slots-fail, slots-pass}
 use Rattle.multiply.proofs.letters.check_slots.Statement.{statement}
 use Rattle.multiply.proofs.letters.check_slots.Tie as tie
 
@@ -28,8 +28,14 @@ shared-slice-read-slot-of c = search needs
 slot-of-requires : tie.Need-slot-of-requires Inv-loop μ-loop
 slot-of-requires c κs = search needs
 
-refuse-requires : tie.Need-refuse-requires Inv-loop μ-loop
-refuse-requires c κs = search needs
+check-that-requires : tie.Need-check-that-requires Inv-loop μ-loop
+check-that-requires c κs = search needs
+
+enum-told : tie.Need-enum-told Inv-loop μ-loop
+enum-told c = search needs
+
+enum-told-2 : tie.Need-enum-told-2 Inv-loop μ-loop
+enum-told-2 c = search needs
 
 returns : tie.Need-returns Inv-loop μ-loop
 returns c = search (slots-fail, needs)
@@ -56,7 +62,9 @@ check-slots-spec =
     loop-holds
     shared-slice-read-slot-of
     slot-of-requires
-    refuse-requires
+    check-that-requires
+    enum-told
+    enum-told-2
     returns
     add-i
     loop-less

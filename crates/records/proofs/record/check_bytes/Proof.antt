@@ -1,11 +1,11 @@
 -- `records::record::check_bytes` meets its contract.
-use Prim.Native.Nat.{_≤_, _+_, _-_}
+use Prim.Native.Nat.{_+_, _-_, _≤_}
 use mathlib.Core.Path.{_≡_}
-use lib.ListN.{length, drop}
+use lib.ListN.{drop, length}
 use borrow.Author.Needs.{needs}
-use Rattle.records.proofs.Rules.{bytes-begin, bytes-fail, bytes-pass, bytes-end}
-use Rattle.records.proofs.Chains.{told-true, told-false}
 use Rattle.records.specs.Refusals.{byteRule}
+use Rattle.records.proofs.Chains.{must-told}
+use Rattle.records.proofs.Rules.{bytes-begin, bytes-end, bytes-fail, bytes-pass}
 use Rattle.records.proofs.record.check_bytes.Statement.{statement}
 use Rattle.records.proofs.record.check_bytes.Tie as tie
 
@@ -25,14 +25,20 @@ shared-slice-read-is-letter-or-stop c = search needs
 is-letter-or-stop-requires : tie.Need-is-letter-or-stop-requires Inv-loop μ-loop
 is-letter-or-stop-requires c κs = search needs
 
-add-place : tie.Need-add-place Inv-loop μ-loop
-add-place c = search needs
+add-check-that : tie.Need-add-check-that Inv-loop μ-loop
+add-check-that c = search needs
 
-refuse-requires : tie.Need-refuse-requires Inv-loop μ-loop
-refuse-requires c κs = search needs
+check-that-requires : tie.Need-check-that-requires Inv-loop μ-loop
+check-that-requires c κs = search needs
+
+enum-told : tie.Need-enum-told Inv-loop μ-loop
+enum-told c = search needs
+
+enum-told-2 : tie.Need-enum-told-2 Inv-loop μ-loop
+enum-told-2 c = search needs
 
 returns : tie.Need-returns Inv-loop μ-loop
-returns c = search (bytes-fail, told-false, needs)
+returns c = search (bytes-fail, must-told, needs)
 
 add-i : tie.Need-add-i Inv-loop μ-loop
 add-i c = search needs
@@ -41,7 +47,7 @@ loop-less : tie.Need-loop-less Inv-loop μ-loop
 loop-less c = search needs
 
 loop-again : tie.Need-loop-again Inv-loop μ-loop
-loop-again c = search (bytes-pass, told-true, needs)
+loop-again c = search (bytes-pass, must-told, needs)
 
 returns-2 : tie.Need-returns-2 Inv-loop μ-loop
 returns-2 c = search (bytes-end, needs)
@@ -55,8 +61,10 @@ check-bytes-spec =
     loop-holds
     shared-slice-read-is-letter-or-stop
     is-letter-or-stop-requires
-    add-place
-    refuse-requires
+    add-check-that
+    check-that-requires
+    enum-told
+    enum-told-2
     returns
     add-i
     loop-less

@@ -1,20 +1,28 @@
 -- `records::record::check_record` meets its contract.
 use borrow.Author.Needs.{needs}
-use Rattle.records.proofs.Rules.{record-end, record-rest}
+use Rattle.records.specs.Refusals.{recordRules}
+use Rattle.records.proofs.Chains.{then-failed, then-fine}
 use Rattle.records.proofs.record.check_record.Statement.{statement}
 use Rattle.records.proofs.record.check_record.Tie as tie
 
-shared-slice-read-if1 : tie.Need-shared-slice-read-if1
-shared-slice-read-if1 c = search needs
+shared-slice-read-check-that : tie.Need-shared-slice-read-check-that
+shared-slice-read-check-that c = search needs
 
-add-refuse : tie.Need-add-refuse
-add-refuse c = search needs
+add-check-that : tie.Need-add-check-that
+add-check-that c = search needs
 
-refuse-requires : tie.Need-refuse-requires
-refuse-requires c κs = search needs
+check-that-requires : tie.Need-check-that-requires
+check-that-requires c κs = search needs
+
+enum-told : tie.Need-enum-told
+enum-told c = search needs
+
+enum-told-2 : tie.Need-enum-told-2
+enum-told-2 c = search needs
 
 returns : tie.Need-returns
-returns c = search (record-end, needs)
+unfolding recordRules
+returns c = search (then-failed, needs)
 
 sub-check-letters : tie.Need-sub-check-letters
 sub-check-letters c = search needs
@@ -29,15 +37,18 @@ check-letters-requires : tie.Need-check-letters-requires
 check-letters-requires c κs = search needs
 
 returns-2 : tie.Need-returns-2
-returns-2 c = search (record-rest, needs)
+unfolding recordRules
+returns-2 c = search (then-fine, needs)
 
 pub check-record-spec : {M : Type 1} → statement M
 check-record-spec =
     tie.close
     (tie.spec
-    shared-slice-read-if1
-    add-refuse
-    refuse-requires
+    shared-slice-read-check-that
+    add-check-that
+    check-that-requires
+    enum-told
+    enum-told-2
     returns
     sub-check-letters
     part-check-letters-start

@@ -6,7 +6,7 @@ use Rattle.records.specs.Refusals.{eachBelow}
 use Rattle.records.specs.declared.answers.Checked.the-variants.{Fine}
 use Rattle.records.proofs.Chains.{each-end, each-fail, each-pass}
 use Rattle.slots.specs.Refusals.{slotRules}
-use Rattle.slots.proofs.Systems.{record-passed, record-told}
+use Rattle.slots.proofs.Systems.{record-told}
 use Rattle.slots.proofs.checks.check_records.Statement.{statement}
 use Rattle.slots.proofs.checks.check_records.Tie as tie
 
@@ -53,7 +53,7 @@ loop-less : tie.Need-loop-less Inv-loop μ-loop
 loop-less c = search needs
 
 loop-again : tie.Need-loop-again Inv-loop μ-loop
-loop-again c = search (each-pass, record-passed, needs)
+loop-again c = search (each-pass, record-told, needs)
 
 returns-2 : tie.Need-returns-2 Inv-loop μ-loop
 returns-2 c = search (each-end, needs)
