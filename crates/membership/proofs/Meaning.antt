@@ -44,7 +44,7 @@ use Rattle.reduction.specs.Reduction.{reductionOf}
 use Rattle.reduction.specs.declared.answers.Reduction.{Reduction}
 use Rattle.reduction.proofs.Meaning.{enough-passes, left-back, left-equivalent, left-freelyReduced, left-length, left-reduced, ran-ended, ran-reduces, ran-tests, ran-words, runWords, short-means}
 use Rattle.factoring.specs.TargetProduct.{isFound, productAfter, productFor, targetWord}
-use Rattle.membership.specs.Meaning.{Answered, Decides, EnoughRoom, MemberMeans}
+use Rattle.membership.specs.Meaning.{Answered, Decides, MemberMeans}
 use Rattle.membership.specs.Membership.{memberAnswer, memberChecked, memberFound, memberLog, memberProduct, memberTests, memberWords, verdictOf}
 use Rattle.membership.proofs.Calls.{passed-system}
 

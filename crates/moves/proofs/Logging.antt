@@ -12,8 +12,7 @@ use borrow.Author.Tests.{eq-eqb, eqb-false, le-leb, leb-true, lt-leb, ltb-true, 
 use Rattle.systems.specs.Moves.{Move}
 use Rattle.systems.specs.Rules.{formAt}
 use Rattle.systems.proofs.Logic.{all-four, and-left, and-right}
-use Rattle.records.specs.Refusals.{eachBelow, must, refusal}
-use Rattle.records.specs.declared.answers.Checked.{Checked}
+use Rattle.records.specs.Refusals.{eachBelow, must}
 use Rattle.records.specs.declared.answers.Checked.the-variants.{Fine}
 use Rattle.records.proofs.Chains.{each-passed, fine-next, must-fine}
 use Rattle.moves.specs.Logs.{formDigit, isMove, logRecord, logRules, moveAt, moveRule, moveSize, namesSlot}

@@ -13,7 +13,7 @@ use lib.Seq.{getD-drop, getD-take, length-take-le, take-suc}
 use borrow.Author.Tests.{eq-eqb, le-leb, le-ltb, lt-leb, lt-ltb, ne-eqb}
 use Rattle.words.proofs.Buffers.{drop-here, rest-part}
 use Rattle.records.specs.Records.{beforeStop, isLetter, isLetterOrStop, isStop, notLetter, wordOf}
-use Rattle.records.specs.Refusals.{byteRule, eachByte, lettersRule, must, recordRules, refusal}
+use Rattle.records.specs.Refusals.{byteRule, eachByte, lettersRule, must, refusal}
 use Rattle.records.specs.Stops.{stopsRule}
 use Rattle.records.specs.declared.answers.Checked.{Checked}
 use Rattle.records.specs.declared.answers.Checked.the-variants.{Failed, Fine}

@@ -10,20 +10,24 @@ use Rattle.systems.specs.Factoring.{leading}
 use Rattle.membership.specs.Membership.{memberTests}
 use Rattle.sheets.specs.Sheets.{EachSays, sheets}
 
+-- what one sheet says, and what the rest say
+infixr 20 _and_
+_and_ : {A B : Type 0} → A → B → A × B
+a and b = (a, b)
+
 pub sheets-hold : EachSays sheets
 unfolding flipByte inverse shortening halfEnd next leading recordRules lettersRule systemRules wordRoom freelyReducedWords systemRoom targetRules memberTests
-sheets-hold = (
-  (refl, refl),
-  (refl, refl),
-  ((refl, refl, refl), (refl, refl, refl, refl)),
-  ((refl, refl, refl), (refl, refl, refl, refl)),
-  ((refl, refl, refl), (refl, refl, refl, refl)),
-  ((refl, refl, refl), (refl, refl, refl, refl)),
-  ((refl, refl, refl), (refl, refl, refl, refl)),
-  ((refl, refl, refl), (refl, refl, refl, refl)),
-  ((refl, refl, refl), (refl, refl, refl, refl)),
-  ((refl, refl, refl), (refl, refl, refl, refl)),
-  ((refl, refl, refl), (refl, refl, refl, refl)),
-  (refl, refl, refl),
-  tt,
-)
+sheets-hold =
+    (refl, refl)
+    and (refl, refl)
+    and ((refl, refl, refl), (refl, refl, refl, refl))
+    and ((refl, refl, refl), (refl, refl, refl, refl))
+    and ((refl, refl, refl), (refl, refl, refl, refl))
+    and ((refl, refl, refl), (refl, refl, refl, refl))
+    and ((refl, refl, refl), (refl, refl, refl, refl))
+    and ((refl, refl, refl), (refl, refl, refl, refl))
+    and ((refl, refl, refl), (refl, refl, refl, refl))
+    and ((refl, refl, refl), (refl, refl, refl, refl))
+    and ((refl, refl, refl), (refl, refl, refl, refl))
+    and (refl, refl, refl)
+    and tt

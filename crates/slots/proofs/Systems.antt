@@ -21,8 +21,7 @@ use Rattle.systems.proofs.Equivalence.{words-freelyReduced}
 use Rattle.records.specs.Records.{beforeStop, blanks, recordOf, wordOf}
 use Rattle.records.specs.Refusals.{eachBelow, must, recordRules}
 use Rattle.records.specs.declared.answers.Checked.{Checked}
-use Rattle.records.specs.declared.answers.Checked.the-variants.{Failed, Fine}
-use Rattle.records.specs.declared.answers.Refusal.{Refusal}
+use Rattle.records.specs.declared.answers.Checked.the-variants.{Fine}
 use Rattle.records.proofs.Chains.{fine-first, fine-next, must-fine, must-passed}
 use Rattle.records.proofs.Rules.{word-full}
 use Rattle.slots.specs.Held.{Held, Short, held, heldWord}
