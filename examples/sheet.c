@@ -2,22 +2,14 @@
  * over the reduced words is multiplied out. */
 #include <stdio.h>
 #include <stdlib.h>
-#include <string.h>
 
-#include "subgroups.h"
+#include "records.h"
 
-enum { RECORD = 64, SLOTS = 3 };
-
-/* Writes a word as its record. */
-static void put_record(uint8_t *record, const char *word) {
-    memset(record, '.', RECORD - 1);
-    memcpy(record, word, strlen(word));
-    record[RECORD - 1] = '\n';
-}
+enum { WORDS = 3 };
 
 /* Ends the program where a call was turned down. */
 static void expect_done(const char *call, const subgroups_answer *answer) {
-    if (answer->verdict == 3) {
+    if (answer->verdict == SUBGROUPS_REFUSED) {
         printf("%s: refused %d at %d\n", call, (int)answer->number, (int)answer->place);
         exit(1);
     }
@@ -27,34 +19,32 @@ static void expect_done(const char *call, const subgroups_answer *answer) {
 static void print_words(const char *what, const uint8_t *system, size_t slots) {
     printf("%s:", what);
     for (size_t k = 0; k < slots; k++) {
-        size_t n = 0;
-        while (system[RECORD * k + n] != '.' && system[RECORD * k + n] != '\n')
-            n++;
-        printf(" [%.*s]", (int)n, (const char *)system + RECORD * k);
+        const uint8_t *record = system + SUBGROUPS_RECORD * k;
+        printf(" [%.*s]", word_length(record), (const char *)record);
     }
     printf("\n");
 }
 
 int main(void) {
-    const char *given[SLOTS] = {"ab", "ac", "Bd"};
-    uint8_t system[RECORD * SLOTS], words[RECORD * SLOTS], back[RECORD * SLOTS], log[256], product[RECORD], word[RECORD];
+    static const char *const given[WORDS] = {"ab", "ac", "Bd"};
+    uint8_t system[SUBGROUPS_RECORD * WORDS], words[SUBGROUPS_RECORD * WORDS], back[SUBGROUPS_RECORD * WORDS];
+    uint8_t log[64 * SUBGROUPS_MOVE], product[SUBGROUPS_RECORD], word[SUBGROUPS_RECORD];
     subgroups_answer answer;
-    for (int k = 0; k < SLOTS; k++)
-        put_record(system + RECORD * k, given[k]);
+    put_system(system, given, WORDS);
 
     subgroups_reduce(system, sizeof system, words, sizeof words, log, sizeof log, &answer);
     expect_done("reduce", &answer);
     printf("moves %d rank %d independent %s\n", (int)answer.moves, (int)answer.rank, answer.independent ? "yes" : "no");
-    print_words("reduced", words, SLOTS);
-    size_t log_len = 4 * (size_t)answer.moves;
+    print_words("reduced", words, WORDS);
+    size_t log_len = SUBGROUPS_MOVE * (size_t)answer.moves;
     fwrite(log, 1, log_len, stdout);
 
     subgroups_replay(system, sizeof system, log, log_len, 0, back, sizeof back, &answer);
     expect_done("replay", &answer);
-    print_words("forward", back, SLOTS);
+    print_words("forward", back, WORDS);
     subgroups_replay(words, sizeof words, log, log_len, 1, back, sizeof back, &answer);
     expect_done("replay", &answer);
-    print_words("backward", back, SLOTS);
+    print_words("backward", back, WORDS);
 
     put_record(product, "Bc");
     subgroups_multiply(words, sizeof words, product, sizeof product, word, sizeof word, &answer);
@@ -63,7 +53,7 @@ int main(void) {
 
     subgroups_test(system, sizeof system, &answer);
     printf("given reduced: %s\n", answer.reduced ? "yes" : "no");
-    subgroups_tidy(system, RECORD - 1, words, sizeof words, &answer);
+    subgroups_tidy(system, SUBGROUPS_RECORD - 1, words, sizeof words, &answer);
     printf("63 bytes: refused %d at %d\n", (int)answer.number, (int)answer.place);
     return 0;
 }

@@ -1,13 +1,61 @@
 /* Proved routines for subgroups of free groups, for C.
  *
- * Every call takes byte buffers of any length and content and either does its work or refuses. A buffer that is
- * written (words, log, product, word, answer) must not overlap any other; buffers that are only read may. The
- * library keeps nothing between calls and allocates nothing. A pointer may be any non-null pointer where its
- * length is 0.
+ * A few words generate a subgroup of a free group. The calls below reduce such a system of words in Nielsen's sense, decide
+ * whether a word lies in the subgroup and give the product that it is, follow a log of moves forward and backward, and
+ * multiply a product out. Every call takes byte buffers of any length and content, and either does its work or refuses; for
+ * every input its answer and each byte that it leaves are proved. docs/REQUIREMENTS.md says in full what is promised.
  *
- * A refusal changes nothing but the answer, except that under 13 the log holds, as whole records, the first moves that
- * fit. Bytes after the last one written stay as they were. words needs 64 bytes for each record of the system, product
- * and word 64, log 4 for each move. */
+ * Words      A generator is a letter a to z, its inverse the capital: aB is a, then the inverse of b. A word has at most
+ *            63 letters. Free reduction removes neighbours such as aA and Aa until none are left.
+ *
+ * Records    A record is 64 bytes: the letters of a word, then full stops up to byte 62, then a line feed at byte 63.
+ *
+ *                byte   0    1    2    3   ..   62    63
+ *                aBc    a    B    c    .   ..   .     \n
+ *
+ *            A record of 63 full stops and a line feed is blank: the empty word.
+ *
+ * Systems    A system is 0 to 16 records, one after the other. Its records sit in slots a to p, the first in slot a.
+ *
+ * Products   A product over the slots of a system is a record too: a slot's letter stands for its word, the capital for the
+ *            inverse of its word. Over the slots ab, ac, ad the product Bc is the inverse of ac, then ad: it comes to Cd.
+ *
+ * Logs       A log is moves of 4 bytes, one after the other, the first move first, with no header and no end mark:
+ *
+ *                byte   0               1         2             3
+ *                a4b    slot changed    form      other slot    \n
+ *
+ *            With w the word of the slot changed and v that of the other slot, form 1 makes it v w, form 2 the inverse of v,
+ *            then w, form 3 w v, and form 4 w, then the inverse of v; the result is freely reduced.
+ *
+ * Buffers    words needs 64 bytes for each record of the system, product and word 64, log 4 for each move. A longer buffer
+ *            does no harm: bytes after the last one written stay as they were. A refusal changes nothing but the answer,
+ *            except that under SUBGROUPS_LOG_BUFFER_SHORT the log holds, as whole moves, the first that fit.
+ *            A buffer that is written (words, log, product, word, answer) must not overlap any other; buffers that are only
+ *            read may. Where a length is 0 its pointer may be anything, NULL too; answer must not be NULL.
+ *
+ * Threads    The library keeps nothing between calls and allocates nothing. Calls may run side by side in any number of
+ *            threads, as long as no call writes a buffer that another one uses.
+ *
+ * Example    The words ab and b, and the target a (examples/ has whole programs):
+ *
+ *                uint8_t system[2 * SUBGROUPS_RECORD], target[SUBGROUPS_RECORD];
+ *                uint8_t words[2 * SUBGROUPS_RECORD], log[100 * SUBGROUPS_MOVE], product[SUBGROUPS_RECORD];
+ *                subgroups_answer answer;
+ *
+ *                memset(system, '.', sizeof system);
+ *                memcpy(system, "ab", 2);
+ *                memcpy(system + SUBGROUPS_RECORD, "b", 1);
+ *                system[63] = system[127] = '\n';
+ *                memset(target, '.', sizeof target);
+ *                target[0] = 'a';
+ *                target[63] = '\n';
+ *
+ *                subgroups_member(system, sizeof system, target, sizeof target,
+ *                                 words, sizeof words, log, sizeof log, product, sizeof product, &answer);
+ *
+ *            answer.verdict is SUBGROUPS_MEMBER, answer.moves 1, answer.rank 2, answer.independent 1; words holds the
+ *            records of a and b, log the 4 bytes "a4b\n", product the record of a. So the target is the word of slot a. */
 #ifndef SUBGROUPS_H
 #define SUBGROUPS_H
 
@@ -18,8 +66,43 @@
 extern "C" {
 #endif
 
-/* verdict: 0 done, 1 member, 2 not a member, 3 refused. number and place are those of the refusal.
- * independent and reduced are 0 or 1. What a call does not give is 0. */
+enum {
+    SUBGROUPS_RECORD = 64,  /* the bytes of a record */
+    SUBGROUPS_LETTERS = 63, /* the most letters of a word */
+    SUBGROUPS_SLOTS = 16,   /* the most records of a system */
+    SUBGROUPS_MOVE = 4      /* the bytes of a move in a log */
+};
+
+/* What a call says: answer.verdict. */
+enum subgroups_verdict {
+    SUBGROUPS_DONE = 0,
+    SUBGROUPS_MEMBER = 1,
+    SUBGROUPS_NOT_MEMBER = 2,
+    SUBGROUPS_REFUSED = 3
+};
+
+/* Why a call refuses: answer.number. A call tests what it takes in the order of the numbers, 3 to 5 record by record, and
+ * gives the first refusal. answer.place is 0 where nothing else is said; places are counted from 0. */
+enum subgroups_refusal {
+    SUBGROUPS_SYSTEM_UNEVEN = 1,               /* the system's length is not a multiple of 64 */
+    SUBGROUPS_TOO_MANY_RECORDS = 2,            /* the system has more than 16 records */
+    SUBGROUPS_NO_LINE_FEED = 3,                /* byte 63 of a record is not a line feed; place: that byte in the system */
+    SUBGROUPS_NEITHER_LETTER_NOR_STOP = 4,     /* a byte before it is neither letter nor full stop; place: the first such */
+    SUBGROUPS_LETTER_AFTER_STOP = 5,           /* a letter stands after a full stop; place: the first such letter */
+    SUBGROUPS_TARGET_OR_PRODUCT_MALFORMED = 6, /* target or product is not 64 bytes or breaks 3, 4 or 5; place: the failing byte in it */
+    SUBGROUPS_LOG_UNEVEN = 7,                  /* the length of the log to replay is not a multiple of 4 */
+    SUBGROUPS_LOG_RECORD_MALFORMED = 8,        /* not slot, digit 1 to 4, slot, line feed, with two different slots that the
+                                                  system has; place: the move's first byte in the log */
+    SUBGROUPS_SLOT_MISSING = 9,                /* the product names a slot that the system has not; place: the letter in it */
+    SUBGROUPS_WORDS_BUFFER_SHORT = 10,         /* words, or word, has no room for the output */
+    SUBGROUPS_PRODUCT_BUFFER_SHORT = 11,       /* the product buffer is shorter than 64 bytes */
+    SUBGROUPS_WORD_TOO_LONG = 12,              /* a move of replay, or multiply, comes to more than 63 letters; place: in
+                                                  replay the move's number in the log, counted from 1 */
+    SUBGROUPS_LOG_BUFFER_SHORT = 13            /* the moves do not fit the log */
+};
+
+/* The answer of a call. number and place are those of a refusal; what a call does not give is 0, and under a refusal all that
+ * follows place is. independent and reduced are 0 or 1. */
 typedef struct {
     uint64_t verdict, number, place, moves, rank, independent, reduced;
 } subgroups_answer;
@@ -28,27 +111,28 @@ typedef struct {
 void subgroups_tidy(const uint8_t *system, size_t system_len, uint8_t *words, size_t words_len,
                     subgroups_answer *answer);
 
-/* Says in reduced whether the freely reduced words of a system are reduced. Refusals 1 to 5. */
+/* Says in reduced whether the freely reduced words of a system are reduced in Nielsen's sense. Refusals 1 to 5. */
 void subgroups_test(const uint8_t *system, size_t system_len, subgroups_answer *answer);
 
-/* Writes the reduced words and the log of the moves, and gives moves, rank and independent.
- * Refusals 1 to 5, 10 and 13; under 13 the log holds the first moves that fit. */
+/* Writes the reduced words, each into its slot, and the log of the moves, and gives the number of moves, the rank (the number
+ * of reduced words that are not empty) and whether the given words that do not cancel to nothing are independent.
+ * Refusals 1 to 5, 10 and 13. */
 void subgroups_reduce(const uint8_t *system, size_t system_len, uint8_t *words, size_t words_len,
                       uint8_t *log, size_t log_len, subgroups_answer *answer);
 
-/* Writes the words of a system after the moves of a log, forward where backward is 0, and otherwise backward.
+/* Writes the words of a system after the moves of a log, forward where backward is 0, and otherwise undone, the last first.
  * Refusals 1 to 5, 7, 8, 10 and 12. */
 void subgroups_replay(const uint8_t *system, size_t system_len, const uint8_t *log, size_t log_len,
                       uint8_t backward, uint8_t *words, size_t words_len, subgroups_answer *answer);
 
-/* Writes the freely reduced word that a product over the slots of a system multiplies out to.
+/* Writes the freely reduced word that a product over the slots of a system multiplies out to, as one record.
  * Refusals 1 to 5, 6, 9, 10 and 12. */
 void subgroups_multiply(const uint8_t *system, size_t system_len, const uint8_t *product, size_t product_len,
                         uint8_t *word, size_t word_len, subgroups_answer *answer);
 
-/* Writes all that reduce writes, gives its numbers with the verdict member or not a member, and for a member writes
- * the product over the reduced words; for any other target product is left alone. Refusals 1 to 5, 6, 10, 11 and 13;
- * under 13 the log holds the first moves that fit. */
+/* Writes all that reduce writes and gives its numbers, with the verdict member or not a member; for a member it writes the
+ * product over the reduced words that comes to the target, and otherwise leaves product alone. Refusals 1 to 5, 6, 10, 11 and
+ * 13. */
 void subgroups_member(const uint8_t *system, size_t system_len, const uint8_t *target, size_t target_len,
                       uint8_t *words, size_t words_len, uint8_t *log, size_t log_len,
                       uint8_t *product, size_t product_len, subgroups_answer *answer);
