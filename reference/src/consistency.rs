@@ -3,7 +3,8 @@
 
 use crate::answers::{Answer, DONE, MEMBER, NOT_A_MEMBER};
 use crate::graph::Graph;
-use crate::random::{freely_reduced, push_record, Kind, Random};
+use crate::random::{Kind, Random};
+use crate::records::{freely_reduced, record};
 use crate::words::Word;
 use crate::{member, multiply, reduce, replay, test, tidy, Direction};
 
@@ -84,8 +85,7 @@ fn member_against_graph_and_multiply() {
         let reduction = reduce(&given, &mut same_words, &mut same_log);
         for _ in 0..6 {
             let letters = random_target(&mut random, words_given.words(), generators);
-            let mut target = Vec::new();
-            push_record(&mut target, &letters);
+            let target = record(&letters);
             let mut words = vec![FILL; given.len()];
             let mut product = [FILL; 64];
             let answer = member(&given, &target, &mut words, &mut log, &mut product);

@@ -160,7 +160,7 @@ fn short_buffers() {
     for direction in [Direction::Forward, Direction::Backward] {
         assert_eq!(replay(&given, &log, direction, &mut words[..127]), ten);
     }
-    let long = record(&"a".repeat(63));
+    let long = record("a".repeat(63));
     assert_eq!(multiply(&given, &long, &mut words[..63]), ten);
     let mut product = [FILL; 63];
     let answer = member(&given, &target, &mut words, &mut [], &mut product);
@@ -194,15 +194,15 @@ fn too_long_in_multiply() {
     assert_eq!(multiply(&given, &record("abb"), &mut word), refused(12, 0));
     assert_eq!(word, [FILL; 64]);
     let there_and_back = format!("{}b{}", "a".repeat(31), "A".repeat(31));
-    let answer = multiply(&given, &record(&there_and_back), &mut word);
+    let answer = multiply(&given, &record(there_and_back), &mut word);
     assert_eq!(answer, refused(12, 0));
     let there_and_back = format!("{}{}b", "a".repeat(31), "A".repeat(31));
-    let answer = multiply(&given, &record(&there_and_back), &mut word);
+    let answer = multiply(&given, &record(there_and_back), &mut word);
     assert_eq!(answer, Answer::done());
     assert_eq!(word, record("c"));
     let answer = multiply(&given, &record("ab"), &mut word);
     assert_eq!(answer, Answer::done());
-    assert_eq!(word, record(&format!("{}c", "ab".repeat(31))));
+    assert_eq!(word, record(format!("{}c", "ab".repeat(31))));
 }
 
 /// Refusal 13 keeps the moves that fitted and touches nothing else.

@@ -134,7 +134,7 @@ mod tests {
     use super::*;
     use crate::answers::{Answer, DONE, MEMBER, NOT_A_MEMBER, REFUSED};
     use crate::graph::traces;
-    use crate::records::{check_system, record, system};
+    use crate::records::{freely_reduced, record, system};
     use crate::words::Word;
     use crate::{member, multiply, reduce, replay, test, tidy, Direction};
 
@@ -212,8 +212,7 @@ mod tests {
             let answer = member(&given, &record(target), &mut words, &mut log, &mut product);
             check_reduction(sheet, answer, &words, &log);
             let word = Word::freely_reduced(target.as_bytes());
-            let freely_reduced = check_system(&given).unwrap().freely_reduced();
-            let traced = traces(freely_reduced.words(), &word);
+            let traced = traces(freely_reduced(&given).words(), &word);
             match expected {
                 Some(expected) => {
                     assert_eq!(answer.verdict, MEMBER, "{}", sheet.name);
