@@ -4,6 +4,7 @@
 //! The calls are tidy, reduce, test, member, replay, multiply and show.
 
 pub mod answers;
+pub mod decision;
 pub mod elements;
 pub mod graph;
 pub mod measured;

@@ -20,8 +20,7 @@ struct Table {
 
 /// How many letter pairs cancel between w(k), the changed word, and w(i), the other one.
 #[inline]
-fn cancelled(form: Form, changed: &Word, other: &Word) -> usize {
-    let (changed, other) = (changed.letters(), other.letters());
+fn cancelled(form: Form, changed: &[u8], other: &[u8]) -> usize {
     match form {
         Form::WordBefore => cancellation(other, changed),
         Form::InverseBefore => common_beginning(other, changed),
@@ -33,12 +32,12 @@ fn cancelled(form: Form, changed: &Word, other: &Word) -> usize {
 /// Whether one of these two forms of another slot cancels half of a slot's word.
 #[inline]
 fn has_half_elsewhere(words: &[Word], slot: usize, forms: [Form; 2]) -> bool {
-    let word = &words[slot];
+    let word = words[slot].letters();
     let half = word.len() / 2;
     (0..words.len())
         .filter(|&other| other != slot)
         .any(|other| {
-            let cancels_half = |form| cancelled(form, word, &words[other]) >= half;
+            let cancels_half = |form| cancelled(form, word, words[other].letters()) >= half;
             forms.into_iter().any(cancels_half)
         })
 }
@@ -62,10 +61,10 @@ fn shortest_with_both_halves_elsewhere(words: &[Word]) -> Option<usize> {
 /// The half-end move of a system in which nothing shortens, if a word qualifies.
 fn half_end_move(words: &[Word]) -> Option<Move> {
     let other = shortest_with_both_halves_elsewhere(words)?;
-    let by = &words[other];
+    let by = words[other].letters();
     for changed in (0..words.len()).filter(|&changed| changed != other) {
         for form in [Form::InverseAfter, Form::WordBefore] {
-            if cancelled(form, &words[changed], by) >= by.len() / 2 {
+            if cancelled(form, words[changed].letters(), by) >= by.len() / 2 {
                 return Some(Move {
                     changed,
                     form,
@@ -108,7 +107,7 @@ impl Table {
                 0..words.len()
             };
             for other in others {
-                if other == changed || self.failed[changed][other] {
+                if self.failed[changed][other] || other == changed {
                     continue;
                 }
                 if let Some(form) = self.shortening_form(words, changed, other) {
@@ -126,7 +125,7 @@ impl Table {
     /// The first form that shortens one slot by another; if there is none, that is noted.
     #[inline]
     fn shortening_form(&mut self, words: &[Word], changed: usize, other: usize) -> Option<Form> {
-        let (word, by) = (&words[changed], &words[other]);
+        let (word, by) = (words[changed].letters(), words[other].letters());
         let mut most = 0;
         for form in Form::ALL {
             let count = cancelled(form, word, by);
@@ -144,27 +143,20 @@ impl Table {
 }
 
 /// Does what reduce does, by the quick search.
-pub fn reduce(system: &[u8], words: &mut [u8], log: &mut [u8]) -> Answer {
+pub fn reduce([system]: [&[u8]; 1], [words, log]: [&mut [u8]; 2]) -> Answer {
     let mut table = Table::default();
     reduce_by(|words| table.next_move(words), system, words, log)
 }
 
 /// Says what test says, by whether the quick search finds a move.
-pub fn test(system: &[u8]) -> Answer {
+pub fn test([system]: [&[u8]; 1], []: [&mut [u8]; 0]) -> Answer {
     test_by(|words| Table::default().next_move(words).is_none(), system)
 }
 
 /// Does what member does, by the quick search.
-pub fn member(
-    system: &[u8],
-    target: &[u8],
-    words: &mut [u8],
-    log: &mut [u8],
-    product: &mut [u8],
-) -> Answer {
+pub fn member(inputs: [&[u8]; 2], buffers: [&mut [u8]; 3]) -> Answer {
     let mut table = Table::default();
-    let search = |words: &[Word]| table.next_move(words);
-    member_by(search, [system, target], [words, log, product])
+    member_by(|words| table.next_move(words), inputs, buffers)
 }
 
 #[cfg(test)]
@@ -173,14 +165,14 @@ mod tests {
     use crate::random::Random;
     use crate::records::freely_reduced;
     use crate::reducedness::is_reduced;
-    use crate::reduction;
+    use crate::reduction as plain;
 
     /// On random systems, many of them rich in half-end moves, the quick search finds the moves of the
     /// plain one, up to a reduced system.
     #[test]
     fn moves_of_the_plain_search() {
         let mut random = Random::new(23);
-        let mut moves = 0;
+        let (mut shortenings, mut half_ends) = (0, 0);
         for round in 0..4000 {
             let records = random.below(MOST_RECORDS + 1);
             let generators = [1, 2, 3, 5, 26][random.below(5)];
@@ -192,14 +184,20 @@ mod tests {
             };
             let mut system = freely_reduced(&system);
             let mut table = Table::default();
-            while let Some(step) = reduction::next_move(system.words()) {
-                assert_eq!(table.next_move(system.words()), Some(step));
+            loop {
+                let shortening = plain::first_shortening(system.words());
+                let step = shortening.or_else(|| plain::half_end_move(system.words()));
+                assert_eq!(table.next_move(system.words()), step);
+                let Some(step) = step else { break };
+                match shortening {
+                    Some(_) => shortenings += 1,
+                    None => half_ends += 1,
+                }
                 assert!(step.make(system.words_mut()));
-                moves += 1;
             }
-            assert_eq!(table.next_move(system.words()), None);
             assert!(is_reduced(system.words()));
         }
-        assert!(moves > 50_000, "{moves}");
+        assert!(shortenings > 30_000, "{shortenings}");
+        assert!(half_ends > 4_000, "{half_ends}");
     }
 }

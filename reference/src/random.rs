@@ -155,6 +155,15 @@ impl Random {
         system
     }
 
+    /// One of the words or its inverse.
+    pub fn factor(&mut self, words: &[Word]) -> Word {
+        let word = words[self.below(words.len())];
+        match self.below(2) {
+            0 => word,
+            _ => word.inverse(),
+        }
+    }
+
     /// A word that is a product of the given words and inverses, of at most 63 letters.
     pub fn product(&mut self, words: &[Word], factors: usize) -> Word {
         let mut product = Word::EMPTY;
@@ -162,10 +171,7 @@ impl Random {
             if words.is_empty() {
                 break;
             }
-            let mut factor = words[self.below(words.len())];
-            if self.below(2) == 1 {
-                factor = factor.inverse();
-            }
+            let factor = self.factor(words);
             product = product.times(&factor).unwrap_or(product);
         }
         product

@@ -47,16 +47,18 @@ pub fn read_system(system: &[u8]) -> Result<System, Refusal> {
     if records.len() > MOST_RECORDS {
         return Err(Refusal::new(TOO_MANY_RECORDS, 0));
     }
-    let mut words = [Word::EMPTY; MOST_RECORDS];
+    let mut system = System {
+        words: [Word::EMPTY; MOST_RECORDS],
+        count: records.len(),
+    };
     for (slot, record) in records.iter().enumerate() {
         let letters = record_letters(record).map_err(|fault| Refusal {
             place: fault.place + (RECORD * slot) as u64,
             ..fault
         })?;
-        words[slot] = Word::freely_reduced(letters);
+        system.words[slot] = Word::freely_reduced(letters);
     }
-    let count = records.len();
-    Ok(System { words, count })
+    Ok(system)
 }
 
 /// The letters of a target or product, or refusal 6.

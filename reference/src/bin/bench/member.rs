@@ -19,9 +19,7 @@ const LENGTHS: [usize; 3] = [RECORD * MOST_RECORDS, LOG_RECORD * MOST_MOVES, REC
 
 /// Member, by the quick search on the Rust side.
 const QUICK_MEMBER: Entry<2, 3> = Entry {
-    rust: |[system, target], [words, log, product]| {
-        quick_search::member(system, target, words, log, product)
-    },
+    rust: quick_search::member,
     ..MEMBER
 };
 

@@ -17,7 +17,7 @@ const SYSTEMS: usize = 200;
 
 /// Reduce, by the quick search on the Rust side.
 const QUICK_REDUCE: Entry<1, 2> = Entry {
-    rust: |[system], [words, log]| quick_search::reduce(system, words, log),
+    rust: quick_search::reduce,
     ..REDUCE
 };
 

@@ -12,7 +12,7 @@ const SYSTEMS: usize = 64;
 
 /// Test, by the quick search on the Rust side.
 const QUICK_TEST: Entry<1, 0> = Entry {
-    rust: |[system], []| quick_search::test(system),
+    rust: quick_search::test,
     ..TEST
 };
 

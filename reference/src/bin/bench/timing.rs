@@ -48,7 +48,7 @@ pub fn time<const INPUTS: usize, const BUFFERS: usize>(
     let mut proved_buffers = lengths.map(|length| vec![0; length]);
     let mut rust_buffers = lengths.map(|length| vec![0; length]);
     let mut answer: Numbers = [0; 7];
-    let mut proved = |input: &[Vec<u8>; INPUTS]| {
+    let proved = |input: &[Vec<u8>; INPUTS]| {
         let buffers = proved_buffers
             .each_mut()
             .map(|bytes| black_box(&mut bytes[..]));
@@ -59,13 +59,18 @@ pub fn time<const INPUTS: usize, const BUFFERS: usize>(
         );
         black_box(&answer);
     };
-    let mut rust = |input: &[Vec<u8>; INPUTS]| {
+    let rust = |input: &[Vec<u8>; INPUTS]| {
         let buffers = rust_buffers
             .each_mut()
             .map(|bytes| black_box(&mut bytes[..]));
         let answer = (entry.rust)(input.each_ref().map(|bytes| &bytes[..]), buffers);
         black_box(&answer);
     };
+    shortest_times(inputs, proved, rust)
+}
+
+/// The shortest of the times of one call on either side, by turns over many rounds.
+fn shortest_times<T>(inputs: &[T], mut proved: impl FnMut(&T), mut rust: impl FnMut(&T)) -> Times {
     let once = time_of(inputs, 1, &mut proved) + time_of(inputs, 1, &mut rust);
     let repetitions = (ROUND.as_nanos() / once.as_nanos().max(1)).max(1) as usize;
     let calls = (repetitions * inputs.len()) as f64;

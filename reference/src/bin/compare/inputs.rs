@@ -4,6 +4,7 @@
 use subgroups_reference::random::{Kind, Random};
 use subgroups_reference::records::{record, system, MOST_RECORDS, RECORD};
 use subgroups_reference::sheets::{SHEETS, TIDY};
+use subgroups_reference::small;
 use subgroups_reference::words::LONGEST;
 
 /// The numbers of generators over which random systems are made.
@@ -183,6 +184,22 @@ pub fn for_each_two_changed_bytes(
             changed[two] = base[two];
         }
         changed[one] = base[one];
+    }
+}
+
+/// Lends all systems of one to four short words over one, two and three generators.
+pub fn for_each_small_system(mut lend: impl FnMut(&[u8])) {
+    for (generators, longest, records) in [
+        (1, 8, 1),
+        (1, 12, 2),
+        (1, 6, 3),
+        (2, 4, 2),
+        (2, 2, 3),
+        (2, 1, 4),
+        (3, 2, 2),
+        (3, 1, 4),
+    ] {
+        small::for_each_system(generators, longest, records, &mut lend);
     }
 }
 

@@ -3,10 +3,9 @@
 //! member's product is multiplied out again.
 
 use crate::comparison::Comparison;
-use crate::entries;
+use crate::entries::MEMBER;
 use crate::inputs::*;
-use subgroups_reference::answers::{Answer, MEMBER};
-use subgroups_reference::graph::traces;
+use subgroups_reference::decision::check_decision;
 use subgroups_reference::moves::LOG_RECORD;
 use subgroups_reference::random::Random;
 use subgroups_reference::records::{freely_reduced, record, system, MOST_RECORDS, RECORD};
@@ -15,7 +14,6 @@ use subgroups_reference::refusals::*;
 use subgroups_reference::sheets::{Target, SHEETS};
 use subgroups_reference::small;
 use subgroups_reference::words::{Word, LONGEST};
-use subgroups_reference::{multiply, tidy};
 
 /// The comparison of member: the system and the target; the words buffer, the log and the product buffer.
 type Member = Comparison<2, 3>;
@@ -24,7 +22,7 @@ type Member = Comparison<2, 3>;
 pub fn compare() -> u64 {
     let inputs = ["system", "target"];
     let buffers = ["words buffer", "log", "product buffer"];
-    let calls = &mut Member::new("member", entries::MEMBER, inputs, buffers);
+    let calls = &mut Member::new("member", MEMBER, inputs, buffers);
     calls.another_check = Some(check_decision);
     sheets(calls);
     for_each_length(|system| call_letters(calls, system, b"aa", 100));
@@ -46,40 +44,6 @@ pub fn compare() -> u64 {
         PRODUCT_BUFFER_SHORT,
         LOG_BUFFER_SHORT,
     ])
-}
-
-/// Checks the Rust version's decision on a call that was not refused, and a member's product, in
-/// another way.
-fn check_decision(
-    [system, target]: [&[u8]; 2],
-    [words, _, product]: [&[u8]; 3],
-    answer: Answer,
-) -> Result<(), &'static str> {
-    let target = freely_reduced(target).words()[0];
-    let member = answer.verdict == MEMBER;
-    if traces(freely_reduced(system).words(), &target) != member {
-        return Err("factoring and the folded graph disagree");
-    }
-    if !member {
-        return Ok(());
-    }
-    let (words, product) = (&words[..system.len()], &product[..RECORD]);
-    let mut shortened = [0; RECORD];
-    tidy(product, &mut shortened);
-    if shortened != product {
-        return Err("the product is not freely reduced");
-    }
-    let blank = |slot: usize| words[RECORD * slot] == b'.';
-    let mut slots = product.iter().filter(|byte| byte.is_ascii_alphabetic());
-    if slots.any(|letter| blank(usize::from(letter.to_ascii_lowercase() - b'a'))) {
-        return Err("the product names a blank slot");
-    }
-    let mut multiplied = [0; RECORD];
-    let done = multiply(words, product, &mut multiplied);
-    if done != Answer::done() || multiplied != record(target.letters()) {
-        return Err("the product does not multiply out to the target");
-    }
-    Ok(())
 }
 
 /// The lengths of the words buffer, the log and the product buffer that member needs.
@@ -204,10 +168,7 @@ fn product_of_halves(random: &mut Random, words: &[Word], factors: usize) -> Wor
         if words.is_empty() {
             break;
         }
-        let mut factor = words[random.below(words.len())];
-        if random.below(2) == 0 {
-            factor = factor.inverse();
-        }
+        let factor = random.factor(words);
         let kept = match random.below(6) {
             0 => factor.len() / 2,
             _ => factor.len(),

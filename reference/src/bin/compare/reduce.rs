@@ -9,7 +9,6 @@ use subgroups_reference::random::{Kind, Random};
 use subgroups_reference::records::{system, MOST_RECORDS};
 use subgroups_reference::reduction::reduction;
 use subgroups_reference::refusals::{LOG_BUFFER_SHORT, WORDS_BUFFER_SHORT};
-use subgroups_reference::small;
 use subgroups_reference::words::LONGEST;
 
 /// The comparison of reduce: the system; the words buffer and the log.
@@ -39,7 +38,9 @@ pub fn compare() -> u64 {
             calls.call([system], [words, long]);
         }
     });
-    small_systems(calls);
+    for_each_small_system(|system| {
+        calls.call([system], [system.len(), 80 * LOG_RECORD]);
+    });
     powers(calls);
     log_lengths(calls);
     random_systems(calls);
@@ -57,24 +58,6 @@ fn call_with_all_logs(calls: &mut Reduce, system: &[u8]) {
     let [words, log] = lengths_needed(system);
     for length in 0..log + 10 {
         calls.call([system], [words, length]);
-    }
-}
-
-/// All systems of two, three and four short words over one, two and three generators.
-fn small_systems(calls: &mut Reduce) {
-    for (generators, longest, records) in [
-        (1, 8, 1),
-        (1, 12, 2),
-        (1, 6, 3),
-        (2, 4, 2),
-        (2, 2, 3),
-        (2, 1, 4),
-        (3, 2, 2),
-        (3, 1, 4),
-    ] {
-        small::for_each_system(generators, longest, records, |system| {
-            calls.call([system], [system.len(), 80 * LOG_RECORD]);
-        });
     }
 }
 

@@ -26,18 +26,7 @@ pub fn compare() -> u64 {
     for system in sound_and_refused_systems() {
         calls.call([&system], []);
     }
-    for (generators, longest, records) in [
-        (1, 8, 1),
-        (1, 8, 2),
-        (1, 4, 3),
-        (2, 4, 2),
-        (2, 2, 3),
-        (3, 2, 2),
-    ] {
-        small::for_each_system(generators, longest, records, |system| {
-            calls.call([system], []);
-        });
-    }
+    for_each_small_system(|system| calls.call([system], []));
     telling_systems(calls);
     long_halves(calls);
     random_systems(calls);
