@@ -8,7 +8,7 @@ use crate::moves::{Form, Move};
 use crate::records::MOST_RECORDS;
 use crate::reducedness::test_by;
 use crate::reduction::reduce_by;
-use crate::words::{cancellation, common_beginning, common_end, Word};
+use crate::words::{cancellation, common_beginning, Word};
 
 /// What the search has found out about pairs of slots, and the move that it has found last.
 #[derive(Default)]
@@ -16,6 +16,13 @@ struct Table {
     /// For each slot k and each slot i, whether no form of i shortens k.
     failed: [[bool; MOST_RECORDS]; MOST_RECORDS],
     last: Option<Move>,
+}
+
+/// How many letters two words share at their ends.
+#[inline]
+fn common_end(one: &[u8], other: &[u8]) -> usize {
+    let pairs = one.iter().rev().zip(other.iter().rev());
+    pairs.take_while(|(a, b)| a == b).count()
 }
 
 /// How many letter pairs cancel between w(k), the changed word, and w(i), the other one.

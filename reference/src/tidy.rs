@@ -1,4 +1,5 @@
 //! The call tidy: freely reduce every record of a system.
+//! Each word is written into the 64 bytes of its own slot.
 
 use crate::answers::Answer;
 use crate::records::{check_room_for_words, read_system};

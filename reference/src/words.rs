@@ -51,13 +51,6 @@ pub fn common_beginning(one: &[u8], other: &[u8]) -> usize {
     pairs.take_while(|(a, b)| a == b).count()
 }
 
-/// How many letters two words share at their ends.
-#[inline]
-pub fn common_end(one: &[u8], other: &[u8]) -> usize {
-    let pairs = one.iter().rev().zip(other.iter().rev());
-    pairs.take_while(|(a, b)| a == b).count()
-}
-
 impl Word {
     /// The empty word.
     pub const EMPTY: Word = Word {

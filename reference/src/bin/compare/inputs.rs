@@ -134,19 +134,21 @@ pub fn for_each_length_of_record(letters: &str, mut lend: impl FnMut(&[u8])) {
 }
 
 /// Lends targets or products with each byte changed to every other, and with two bytes changed, to
-/// faulty and to sound ones: a blank record, one of these letters, and a full one of theirs.
+/// faulty and to sound ones.
 pub fn for_each_damaged_record(letters: &str, mut lend: impl FnMut(&[u8])) {
-    for base in [record(""), record(letters), full_record(letters)] {
+    for base in records_of(letters) {
         for_each_changed_byte(&base, 0..RECORD, &every_byte(), &mut lend);
     }
     let changes = [(b'a', b'a'), (b'a', b'?'), (b'?', b'z'), (b'z', b'.')];
     for_each_two_changed_bytes(&record(letters), 0..RECORD, &changes, lend);
 }
 
-/// The record of 63 letters in which these ones recur.
-pub fn full_record(letters: &str) -> [u8; RECORD] {
-    let row: Vec<u8> = letters.bytes().cycle().take(LONGEST).collect();
-    record(row)
+/// A blank record, one of these letters, one in which they recur as often as they fit, and a full
+/// one in which they recur.
+pub fn records_of(letters: &str) -> [[u8; RECORD]; 4] {
+    let often = letters.repeat(LONGEST / letters.len());
+    let full: Vec<u8> = letters.bytes().cycle().take(LONGEST).collect();
+    [record(""), record(letters), record(often), record(full)]
 }
 
 /// The record of these letters, then the same too short, too long and broken in several places.

@@ -32,9 +32,8 @@ pub fn compare() -> u64 {
     buffer_lengths(calls);
     target_lengths(calls);
     let given = system(&["ab", "ac", "Bd"]);
-    for_each_damaged_record("abCd", |target| {
-        calls.call([&given, target], lengths_needed(&given));
-    });
+    let needed = lengths_needed(&given);
+    for_each_damaged_record("abCd", |target| calls.call([&given, target], needed));
     small_systems(calls);
     powers(calls);
     random_targets(calls);
@@ -187,8 +186,8 @@ fn random_targets(calls: &mut Member) {
         for round in 0..12_000 {
             let mut given = random.system_to_reduce(generators);
             let reduction = reduction(&given);
-            let [given_words, reduced_words] =
-                [&given, &reduction.words].map(|s| freely_reduced(s));
+            let given_words = freely_reduced(&given);
+            let reduced_words = freely_reduced(&reduction.words);
             let needed = [given.len(), reduction.log.len(), RECORD];
             let mut target = record("");
             for _ in 0..TARGETS {

@@ -73,7 +73,7 @@ fn refusals_in_order(calls: &mut Multiply) {
 fn damaged_products(calls: &mut Multiply) {
     let given = system(&["ab", "c", "", "bbA", "dA"]);
     for_each_damaged_record("abCDe", |product| calls.call([&given, product], [RECORD]));
-    for base in [record(""), record("abCDe"), full_record("abCDe")] {
+    for base in records_of("abCDe") {
         for_each_changed_byte(&base, 0..RECORD, &TELLING_BYTES, |product| {
             calls.call([&[], product], [RECORD]);
             calls.call([&given, product], [RECORD - 1]);
