@@ -2,10 +2,14 @@
 //! the two decisions on membership, and the product against multiply.
 
 use crate::answers::{Answer, DONE, MEMBER, NOT_A_MEMBER};
+use crate::decision::check_decision;
 use crate::graph::Graph;
-use crate::random::{freely_reduced, push_record, Kind, Random};
+use crate::random::{Kind, Random};
+use crate::records::{freely_reduced, record};
+use crate::reduction::{reduction, Reduction};
+use crate::refusals::WORD_TOO_LONG;
 use crate::words::Word;
-use crate::{member, multiply, reduce, replay, test, tidy, Direction};
+use crate::{member, replay, test, tidy, Direction};
 
 const FILL: u8 = 0xEE;
 
@@ -33,17 +37,14 @@ fn replayed(system: &[u8], log: &[u8], direction: Direction) -> Vec<u8> {
 #[test]
 fn reduce_against_test_and_replay() {
     let mut random = Random::new(11);
-    let mut log = vec![FILL; 1 << 18];
     for _ in 0..3000 {
         let (given, _) = random_system(&mut random);
-        let mut words = vec![FILL; given.len()];
-        let answer = reduce(&given, &mut words, &mut log);
+        let Reduction { answer, words, log } = reduction(&given);
         assert_eq!(answer.verdict, DONE);
         assert_eq!(test(&words).reduced, 1);
         assert_eq!(test(&given).reduced, u64::from(answer.moves == 0));
-        let moves = &log[..4 * answer.moves as usize];
-        assert_eq!(replayed(&given, moves, Direction::Forward), words);
-        assert_eq!(replayed(&words, moves, Direction::Backward), tidied(&given));
+        assert_eq!(replayed(&given, &log, Direction::Forward), words);
+        assert_eq!(replayed(&words, &log, Direction::Backward), tidied(&given));
         let words_given = freely_reduced(&given);
         let rank = Graph::folded(words_given.words()).rank();
         assert_eq!(answer.rank, rank as u64);
@@ -69,54 +70,33 @@ fn random_target(random: &mut Random, words: &[Word], generators: usize) -> Vec<
     }
 }
 
-/// Both decisions on membership agree, and the product multiplies out to the target.
+/// Member does what reduce does, both decisions on membership agree, and the product multiplies out
+/// to the target.
 #[test]
-fn member_against_graph_and_multiply() {
+fn member_against_reduce_graph_and_multiply() {
     let mut random = Random::new(12);
-    let mut log = vec![FILL; 1 << 18];
-    let mut same_log = vec![FILL; 1 << 18];
     let mut counts = [0; 2];
     for _ in 0..2000 {
         let (given, generators) = random_system(&mut random);
         let words_given = freely_reduced(&given);
-        let graph = Graph::folded(words_given.words());
-        let mut same_words = vec![FILL; given.len()];
-        let reduction = reduce(&given, &mut same_words, &mut same_log);
+        let reduction = reduction(&given);
         for _ in 0..6 {
-            let letters = random_target(&mut random, words_given.words(), generators);
-            let mut target = Vec::new();
-            push_record(&mut target, &letters);
+            let target = record(random_target(&mut random, words_given.words(), generators));
             let mut words = vec![FILL; given.len()];
+            let mut log = vec![FILL; reduction.log.len()];
             let mut product = [FILL; 64];
             let answer = member(&given, &target, &mut words, &mut log, &mut product);
-            assert_eq!(words, same_words);
-            let logged = 4 * answer.moves as usize;
-            assert_eq!(log[..logged], same_log[..logged]);
+            assert_eq!((&words, &log), (&reduction.words, &reduction.log));
             let verdict = answer.verdict;
-            assert_eq!(
-                answer,
-                Answer {
-                    verdict,
-                    ..reduction
-                }
-            );
-            let traced = graph.traces_loop(Word::freely_reduced(&letters).letters());
-            counts[usize::from(traced)] += 1;
-            if traced {
-                assert_eq!(verdict, MEMBER);
-                assert_eq!(tidied(&product), product);
-                let mut multiplied = [FILL; 64];
-                let answer = multiply(&words, &product, &mut multiplied);
-                assert_eq!(answer, Answer::done());
-                assert_eq!(multiplied, tidied(&target)[..]);
-                for &letter in product.iter().filter(|byte| byte.is_ascii_alphabetic()) {
-                    let slot = usize::from(letter.to_ascii_lowercase() - b'a');
-                    assert_ne!(words[64 * slot], b'.');
-                }
-            } else {
-                assert_eq!(verdict, NOT_A_MEMBER);
-                assert_eq!(product, [FILL; 64]);
-            }
+            let expected = Answer {
+                verdict,
+                ..reduction.answer
+            };
+            assert_eq!(answer, expected);
+            let checked = check_decision([&given, &target], [&words, &log, &product], answer);
+            assert_eq!(checked, Ok(()));
+            counts[usize::from(verdict == MEMBER)] += 1;
+            assert!(verdict == MEMBER || (verdict, product) == (NOT_A_MEMBER, [FILL; 64]));
         }
     }
     assert!(counts[0] > 2000 && counts[1] > 2000, "{counts:?}");
@@ -146,7 +126,7 @@ fn replay_there_and_back() {
             done += 1;
             assert_eq!(replayed(&after, &log, Direction::Backward), tidied(&given));
         } else {
-            assert_eq!(answer.number, 12);
+            assert_eq!(answer.number, WORD_TOO_LONG);
         }
     }
     assert!(done > 2000);

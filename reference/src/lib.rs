@@ -1,14 +1,18 @@
 //! Subgroups of free groups: Nielsen reduction, membership and what goes with them.
-//! A plain Rust version, written from the papers alone, to compare the proved library with.
+//! A plain Rust version, written from the requirements alone (docs/REQUIREMENTS.md), to compare the
+//! proved library with. All that judges is the plain reading of them; quick_search.rs serves timing.
 //! The calls are tidy, reduce, test, member, replay, multiply and show.
 
 pub mod answers;
+pub mod decision;
+pub mod elements;
 pub mod graph;
 pub mod measured;
 pub mod membership;
 pub mod moves;
 pub mod multiply;
 pub mod program;
+pub mod quick_search;
 pub mod random;
 pub mod records;
 pub mod reducedness;
@@ -18,7 +22,6 @@ pub mod replay;
 pub mod sheets;
 pub mod show;
 pub mod small;
-pub mod table_search;
 pub mod tidy;
 pub mod words;
 

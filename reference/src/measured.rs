@@ -2,9 +2,9 @@
 //! Words have lengths between two bounds. Independent ones are random words or come from such by
 //! moves; of dependent ones half are products of the others.
 
-use crate::random::{freely_reduced, push_record, Kind, Random};
-use crate::records::RECORD;
-use crate::reduce;
+use crate::random::{Kind, Random};
+use crate::records::{freely_reduced, record, RECORD};
+use crate::reduction::reduction;
 use crate::words::Word;
 
 /// A kind of system to be measured.
@@ -29,6 +29,22 @@ impl Measured {
         }
     }
 
+    /// The word independent or the word dependent.
+    pub fn dependence(&self) -> &'static str {
+        if self.independent {
+            "independent"
+        } else {
+            "dependent"
+        }
+    }
+
+    /// The name of this kind in the bench's table.
+    pub fn name(&self) -> String {
+        let (records, generators) = (self.records, self.generators);
+        let dependence = self.dependence();
+        format!("{records} words, {generators} generators, {dependence}")
+    }
+
     /// The first systems of this kind.
     pub fn systems(&self, count: usize) -> Vec<Vec<u8>> {
         let seed = 10 * self.records + self.generators;
@@ -36,7 +52,7 @@ impl Measured {
         let mut systems = Vec::with_capacity(count);
         while systems.len() < count {
             let system = self.system(&mut random);
-            if reduction(&system).1 == self.independent {
+            if reduction(&system).answer.independent == u64::from(self.independent) {
                 systems.push(system);
             }
         }
@@ -84,7 +100,7 @@ impl Measured {
         let words = freely_reduced(&words);
         let mut system = Vec::with_capacity(RECORD * self.records);
         for word in words.words() {
-            push_record(&mut system, word.letters());
+            system.extend(record(word.letters()));
             let product = loop {
                 let factors = random.between(2, 6);
                 let product = random.product(words.words(), factors);
@@ -92,7 +108,7 @@ impl Measured {
                     break product;
                 }
             };
-            push_record(&mut system, product.letters());
+            system.extend(record(product.letters()));
         }
         system.truncate(RECORD * self.records);
         system
@@ -106,7 +122,7 @@ impl Measured {
     /// Targets for a system, by turns members and words that differ from a member in one letter.
     pub fn targets(&self, system: &[u8], count: usize) -> Vec<Word> {
         let mut random = Random::new(77);
-        let words = freely_reduced(&reduction(system).0);
+        let words = freely_reduced(&reduction(system).words);
         (0..count)
             .map(|number| {
                 let factors = random.between(1, 12);
@@ -118,13 +134,6 @@ impl Measured {
             })
             .collect()
     }
-}
-
-/// A system after reduce, and whether its words are independent.
-pub fn reduction(system: &[u8]) -> (Vec<u8>, bool) {
-    let mut words = vec![0; system.len()];
-    let answer = reduce(system, &mut words, &mut vec![0; 1 << 16]);
-    (words, answer.independent == 1)
 }
 
 #[cfg(test)]

@@ -2,99 +2,49 @@
 //! the reduced words by their big ends and half ends. The other way is the folded graph.
 
 use crate::answers::{Answer, MEMBER, NOT_A_MEMBER};
+use crate::elements::{elements, Element};
+use crate::moves::Move;
 use crate::records::{
-    check_room_for_words, check_system, check_target_or_product, first_record, write_letters,
-    RECORD,
+    check_room_for_words, read_system, read_target_or_product, write_record, RECORD,
 };
-use crate::reduction::reduce_system;
+use crate::reduction::{next_move, reduce_system};
 use crate::refusals::{Refusal, PRODUCT_BUFFER_SHORT};
-use crate::words::{cancellation, common_beginning, common_end, inverse_letter, Word};
+use crate::words::{common_beginning, Word};
 
-/// A factor of a product: a slot's word, or its inverse.
-#[derive(Clone, Copy)]
-struct Factor {
-    slot: usize,
-    inverted: bool,
+/// Whether an element of another slot ends with this one's second half.
+fn second_half_elsewhere(elements: &[Element], element: &Element) -> bool {
+    element.word.halves().is_some_and(|(_, second)| {
+        let mut others = elements.iter().filter(|other| other.slot != element.slot);
+        others.any(|other| other.word.ends_with(&second))
+    })
 }
 
-impl Factor {
-    /// The letter or capital of the slot.
-    fn letter(self) -> u8 {
-        let first = if self.inverted { b'A' } else { b'a' };
-        first + self.slot as u8
-    }
-
-    /// How many letters the factor and the word share at their beginnings.
-    fn shared_beginning(self, words: &[Word], word: &Word) -> usize {
-        let factor = &words[self.slot];
-        if self.inverted {
-            let pairs = factor.letters().iter().rev().zip(word.letters());
-            pairs.take_while(|(&a, &b)| a == inverse_letter(b)).count()
-        } else {
-            common_beginning(factor.letters(), word.letters())
-        }
-    }
-
-    /// Whether the factor's second half also ends a word or inverse of another slot.
-    fn second_half_shared(self, words: &[Word]) -> bool {
-        let factor = &words[self.slot];
-        let half = factor.len() / 2;
-        words.iter().enumerate().any(|(slot, word)| {
-            let (begins, ends) = if self.inverted {
-                (
-                    common_beginning(word.letters(), factor.letters()),
-                    cancellation(word.letters(), factor.letters()),
-                )
-            } else {
-                (
-                    cancellation(factor.letters(), word.letters()),
-                    common_end(word.letters(), factor.letters()),
-                )
-            };
-            slot != self.slot && !word.is_empty() && (begins >= half || ends >= half)
-        })
-    }
-}
-
-/// The only factor with which a product for the target can begin, if there is one.
-fn first_factor(words: &[Word], target: &Word) -> Option<Factor> {
-    let mut half_end = None;
-    for (slot, word) in words.iter().enumerate() {
-        if word.is_empty() {
-            continue;
-        }
-        for inverted in [false, true] {
-            let factor = Factor { slot, inverted };
-            let shared = factor.shared_beginning(words, target);
-            if 2 * shared > word.len() {
-                return Some(factor);
-            }
-            if 2 * shared == word.len() && factor.second_half_shared(words) {
-                half_end = Some(factor);
-            }
-        }
-    }
-    half_end
+/// The only element with which a product for the target can begin, if there is one: the target begins
+/// with more than half of it, or with just half of it and the other half cancels.
+fn first_factor<'a>(elements: &'a [Element], target: &Word) -> Option<&'a Element> {
+    let shared = |element: &Element| common_beginning(element.word.letters(), target.letters());
+    let big_end = |element: &&Element| 2 * shared(element) > element.word.len();
+    let half_end = |element: &&Element| {
+        2 * shared(element) == element.word.len() && second_half_elsewhere(elements, element)
+    };
+    let found = elements.iter().find(big_end);
+    found.or_else(|| elements.iter().find(half_end))
 }
 
 /// The product over reduced words that multiplies out to the target, as slot letters, if any does.
 pub fn factor(words: &[Word], target: &Word) -> Option<Vec<u8>> {
+    let elements = elements(words);
     let mut rest = *target;
-    let mut product = Vec::with_capacity(target.len());
+    let mut product = Vec::new();
     while !rest.is_empty() {
         // Every factor leaves at least one letter in the target: there are no more than its letters.
         if product.len() == target.len() {
             return None;
         }
-        let factor = first_factor(words, &rest)?;
+        let factor = first_factor(&elements, &rest)?;
         product.push(factor.letter());
-        let word = &words[factor.slot];
-        let fits = if factor.inverted {
-            rest.put_before(word)
-        } else {
-            rest.put_inverse_before(word)
-        };
-        assert!(fits, "taking a factor off makes the rest no longer");
+        let shorter = factor.word.inverse().times(&rest);
+        rest = shorter.expect("taking a factor off makes the rest no longer");
     }
     Some(product)
 }
@@ -107,29 +57,35 @@ pub fn member(
     log: &mut [u8],
     product: &mut [u8],
 ) -> Answer {
-    member_or_refuse(system, target, words, log, product).unwrap_or_else(Answer::refused)
+    member_by(next_move, [system, target], [words, log, product])
+}
+
+/// Does what member does with its two inputs and three buffers, by the moves that a search finds.
+pub fn member_by(
+    next_move: impl FnMut(&[Word]) -> Option<Move>,
+    inputs: [&[u8]; 2],
+    buffers: [&mut [u8]; 3],
+) -> Answer {
+    member_or_refuse(next_move, inputs, buffers).unwrap_or_else(Answer::refused)
 }
 
 /// Does what member promises, or gives the refusal.
 fn member_or_refuse(
-    system: &[u8],
-    target: &[u8],
-    words: &mut [u8],
-    log: &mut [u8],
-    product: &mut [u8],
+    next_move: impl FnMut(&[Word]) -> Option<Move>,
+    [system, target]: [&[u8]; 2],
+    [words, log, product]: [&mut [u8]; 3],
 ) -> Result<Answer, Refusal> {
-    let given = check_system(system)?;
-    let target = Word::freely_reduced(check_target_or_product(target)?);
-    check_room_for_words(words, given.count())?;
+    let mut system = read_system(system)?;
+    let target = Word::freely_reduced(read_target_or_product(target)?);
+    check_room_for_words(words, system.count())?;
     if product.len() < RECORD {
         return Err(Refusal::new(PRODUCT_BUFFER_SHORT, 0));
     }
-    let mut system = given.freely_reduced();
-    let answer = reduce_system(&mut system, log)?;
+    let answer = reduce_system(next_move, &mut system, log)?;
     system.write(words);
     let verdict = match factor(system.words(), &target) {
         Some(letters) => {
-            write_letters(&letters, first_record(product));
+            write_record(&letters, product);
             MEMBER
         }
         None => NOT_A_MEMBER,

@@ -1,8 +1,9 @@
 //! Moves, their four forms, and the log records of 4 bytes in which they are kept:
 //! slot changed, form digit, other slot, line feed.
 
+use crate::records::slot_named;
 use crate::refusals::{Refusal, LOG_RECORD_MALFORMED, LOG_UNEVEN};
-use crate::words::{cancellation, common_beginning, common_end, Word};
+use crate::words::Word;
 
 /// The length of a log record in bytes.
 pub const LOG_RECORD: usize = 4;
@@ -44,8 +45,7 @@ impl Form {
 
     /// The form with this digit, if there is one.
     pub fn with_digit(digit: u8) -> Option<Form> {
-        let number = usize::from(digit.wrapping_sub(b'1'));
-        Form::ALL.get(number).copied()
+        Form::ALL.into_iter().find(|form| form.digit() == digit)
     }
 
     /// The form that undoes this one.
@@ -58,14 +58,14 @@ impl Form {
         }
     }
 
-    /// How many letter pairs cancel between w(i), the other word, and w(k), the changed one.
+    /// What takes the place of w(k), the changed word, by w(i), the other, if it has at most 63 letters.
     #[inline]
-    pub fn cancelled(self, other: &Word, changed: &Word) -> usize {
+    pub fn product(self, changed: &Word, other: &Word) -> Option<Word> {
         match self {
-            Form::WordBefore => cancellation(other.letters(), changed.letters()),
-            Form::InverseBefore => common_beginning(other.letters(), changed.letters()),
-            Form::WordAfter => cancellation(changed.letters(), other.letters()),
-            Form::InverseAfter => common_end(changed.letters(), other.letters()),
+            Form::WordBefore => other.times(changed),
+            Form::InverseBefore => other.inverse().times(changed),
+            Form::WordAfter => changed.times(other),
+            Form::InverseAfter => changed.times(&other.inverse()),
         }
     }
 }
@@ -74,14 +74,11 @@ impl Move {
     /// Makes the move; false, and no change, if the result is over 63 letters.
     #[inline]
     pub fn make(self, words: &mut [Word]) -> bool {
-        let other = words[self.other];
-        let changed = &mut words[self.changed];
-        match self.form {
-            Form::WordBefore => changed.put_before(&other),
-            Form::InverseBefore => changed.put_inverse_before(&other),
-            Form::WordAfter => changed.put_after(&other),
-            Form::InverseAfter => changed.put_inverse_after(&other),
+        match self.form.product(&words[self.changed], &words[self.other]) {
+            Some(product) => words[self.changed] = product,
+            None => return false,
         }
+        true
     }
 
     /// The move that undoes this one.
@@ -101,29 +98,25 @@ impl Move {
 
     /// The move in a log record, if it is well formed over a system of this many slots.
     pub fn read(record: &[u8; LOG_RECORD], slots: usize) -> Option<Move> {
-        let changed = usize::from(record[0].wrapping_sub(b'a'));
-        let other = usize::from(record[2].wrapping_sub(b'a'));
-        let form = Form::with_digit(record[1])?;
-        let sound = changed < slots && other < slots && changed != other && record[3] == b'\n';
-        sound.then_some(Move {
-            changed,
-            form,
-            other,
-        })
+        let &[changed, digit, other, last] = record;
+        let step = Move {
+            changed: slot_named(changed, slots)?,
+            form: Form::with_digit(digit)?,
+            other: slot_named(other, slots)?,
+        };
+        (step.changed != step.other && last == b'\n').then_some(step)
     }
 }
 
-/// Checks a log by rules 7 and 8 over a system of this many slots.
-pub fn check_log(log: &[u8], slots: usize) -> Result<&[[u8; LOG_RECORD]], Refusal> {
+/// Checks a log by rules 7 and 8 over a system of this many slots, and reads its moves.
+pub fn read_log(log: &[u8], slots: usize) -> Result<Vec<Move>, Refusal> {
     let (records, rest) = log.as_chunks::<LOG_RECORD>();
     if !rest.is_empty() {
         return Err(Refusal::new(LOG_UNEVEN, 0));
     }
-    match records
-        .iter()
-        .position(|record| Move::read(record, slots).is_none())
-    {
-        Some(number) => Err(Refusal::new(LOG_RECORD_MALFORMED, LOG_RECORD * number)),
-        None => Ok(records),
-    }
+    let read = |(number, record)| {
+        let malformed = Refusal::new(LOG_RECORD_MALFORMED, LOG_RECORD * number);
+        Move::read(record, slots).ok_or(malformed)
+    };
+    records.iter().enumerate().map(read).collect()
 }

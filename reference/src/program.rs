@@ -11,7 +11,7 @@ use crate::refusals::{SYSTEM_UNEVEN, TARGET_OR_PRODUCT_MALFORMED, TOO_MANY_RECOR
 pub const MOST_MOVES: usize = 16_384;
 
 /// The word yes or the word no.
-pub fn yes_or_no(yes: bool) -> &'static str {
+fn yes_or_no(yes: bool) -> &'static str {
     if yes {
         "yes"
     } else {
@@ -20,7 +20,7 @@ pub fn yes_or_no(yes: bool) -> &'static str {
 }
 
 /// The line that tells of a refusal.
-pub fn refusal_line(number: u64, place: u64) -> String {
+fn refusal_line(number: u64, place: u64) -> String {
     format!("refused {number} at {place}\n")
 }
 

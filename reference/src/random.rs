@@ -2,7 +2,7 @@
 //! The same seed gives the same inputs everywhere.
 
 use crate::moves::{Form, Move};
-use crate::records::{check_system, write_letters, System, MOST_RECORDS, RECORD};
+use crate::records::{freely_reduced, record, MOST_RECORDS, RECORD};
 use crate::words::{inverse_letter, Word, LONGEST};
 
 /// A deterministic source of random numbers.
@@ -124,7 +124,7 @@ impl Random {
         let mut system = Vec::with_capacity(RECORD * records);
         for _ in 0..records {
             let length = self.between(shortest, longest);
-            push_record(&mut system, &self.letters(kind, generators, length));
+            system.extend(record(self.letters(kind, generators, length)));
         }
         system
     }
@@ -150,9 +150,18 @@ impl Random {
                 _ => Vec::new(),
             };
             let row = [first.letters(), &middle, second.letters()].concat();
-            push_record(&mut system, &row);
+            system.extend(record(row));
         }
         system
+    }
+
+    /// One of the words or its inverse.
+    pub fn factor(&mut self, words: &[Word]) -> Word {
+        let word = words[self.below(words.len())];
+        match self.below(2) {
+            0 => word,
+            _ => word.inverse(),
+        }
     }
 
     /// A word that is a product of the given words and inverses, of at most 63 letters.
@@ -162,12 +171,8 @@ impl Random {
             if words.is_empty() {
                 break;
             }
-            let factor = &words[self.below(words.len())];
-            if self.below(2) == 0 {
-                product.put_after(factor);
-            } else {
-                product.put_inverse_after(factor);
-            }
+            let factor = self.factor(words);
+            product = product.times(&factor).unwrap_or(product);
         }
         product
     }
@@ -209,7 +214,7 @@ impl Random {
             let first = &stems[self.below(stems.len())][..length];
             let second = &stems[self.below(stems.len())][..other_length];
             let second = Word::freely_reduced(second).inverse();
-            push_record(&mut system, &[first, second.letters()].concat());
+            system.extend(record([first, second.letters()].concat()));
         }
         system
     }
@@ -227,10 +232,11 @@ impl Random {
         let mut system = Vec::with_capacity(RECORD * records);
         for slot in 0..records {
             let factors = self.between(0, 6);
-            match free.words().get(slot / 2) {
-                Some(word) if slot % 2 == 0 => push_record(&mut system, word.letters()),
-                _ => push_record(&mut system, self.product(free.words(), factors).letters()),
-            }
+            let word = match free.words().get(slot / 2) {
+                Some(word) if slot % 2 == 0 => *word,
+                _ => self.product(free.words(), factors),
+            };
+            system.extend(record(word.letters()));
         }
         system
     }
@@ -253,11 +259,12 @@ impl Random {
         let letter = self.letter(generators);
         let mut system = Vec::with_capacity(RECORD * records);
         for _ in 0..records {
-            let power = vec![letter; self.between(LONGEST - 5, LONGEST)];
-            let power = Word::freely_reduced(&power);
-            let inverse = power.inverse();
-            let word = if self.below(2) == 0 { &power } else { &inverse };
-            push_record(&mut system, word.letters());
+            let length = self.between(LONGEST - 5, LONGEST);
+            let letter = match self.below(2) {
+                0 => letter,
+                _ => inverse_letter(letter),
+            };
+            system.extend(record(vec![letter; length]));
         }
         system
     }
@@ -309,17 +316,4 @@ impl Random {
         }
         log
     }
-}
-
-/// The freely reduced words of a well-formed system.
-pub fn freely_reduced(system: &[u8]) -> System {
-    let given = check_system(system);
-    given.expect("the system is well formed").freely_reduced()
-}
-
-/// Adds a well-formed record of at most 63 letters to a system.
-pub fn push_record(system: &mut Vec<u8>, letters: &[u8]) {
-    let mut record = [0; RECORD];
-    write_letters(letters, &mut record);
-    system.extend_from_slice(&record);
 }

@@ -2,7 +2,7 @@
 //! A record is letters, then full stops up to byte 62, then a line feed at byte 63.
 
 use crate::refusals::*;
-use crate::words::{free_reduction, Word, LONGEST};
+use crate::words::{Word, LONGEST};
 
 /// The length of a record in bytes.
 pub const RECORD: usize = 64;
@@ -12,12 +12,6 @@ pub const MOST_RECORDS: usize = 16;
 const STOP: u8 = b'.';
 const LINE_FEED: u8 = b'\n';
 
-/// The letters of each record of a well-formed system, as they were lent.
-pub struct Given<'a> {
-    letters: [&'a [u8]; MOST_RECORDS],
-    count: usize,
-}
-
 /// A freely reduced word for each slot.
 #[derive(Clone, Copy, Debug)]
 pub struct System {
@@ -25,43 +19,27 @@ pub struct System {
     count: usize,
 }
 
-/// The letters of a record, or the number of the rule it breaks first and the failing byte.
-#[inline]
+/// The letters of a record, or the first of the rules 3, 4 and 5 that it breaks with its first
+/// failing byte.
 fn record_letters(record: &[u8; RECORD]) -> Result<&[u8], Refusal> {
-    let length = record
-        .iter()
-        .position(|byte| !byte.is_ascii_alphabetic())
-        .unwrap_or(RECORD);
-    if record[LONGEST] == LINE_FEED && record[length..LONGEST].iter().all(|&byte| byte == STOP) {
-        Ok(&record[..length])
-    } else {
-        Err(record_fault(record))
+    let (&last, bytes) = record.split_last().expect("a record has 64 bytes");
+    if last != LINE_FEED {
+        return Err(Refusal::new(NO_LINE_FEED, LONGEST));
     }
+    let neither = |&byte: &u8| !byte.is_ascii_alphabetic() && byte != STOP;
+    if let Some(place) = bytes.iter().position(neither) {
+        return Err(Refusal::new(NEITHER_LETTER_NOR_STOP, place));
+    }
+    let first_stop = bytes.iter().position(|&byte| byte == STOP);
+    let (letters, stops) = bytes.split_at(first_stop.unwrap_or(LONGEST));
+    if let Some(place) = stops.iter().position(u8::is_ascii_alphabetic) {
+        return Err(Refusal::new(LETTER_AFTER_STOP, letters.len() + place));
+    }
+    Ok(letters)
 }
 
-/// The first of the rules 3, 4 and 5 that a malformed record breaks, with its first failing byte.
-#[cold]
-fn record_fault(record: &[u8; RECORD]) -> Refusal {
-    if record[LONGEST] != LINE_FEED {
-        return Refusal::new(NO_LINE_FEED, LONGEST);
-    }
-    let mut letter_after_stop = None;
-    let mut stop_seen = false;
-    for (place, &byte) in record[..LONGEST].iter().enumerate() {
-        if byte == STOP {
-            stop_seen = true;
-        } else if !byte.is_ascii_alphabetic() {
-            return Refusal::new(NEITHER_LETTER_NOR_STOP, place);
-        } else if stop_seen && letter_after_stop.is_none() {
-            letter_after_stop = Some(place);
-        }
-    }
-    let place = letter_after_stop.expect("the record is malformed");
-    Refusal::new(LETTER_AFTER_STOP, place)
-}
-
-/// Checks a system by rules 1 to 5 and finds the letters of its records.
-pub fn check_system(system: &[u8]) -> Result<Given<'_>, Refusal> {
+/// Checks a system by rules 1 to 5 and freely reduces its words.
+pub fn read_system(system: &[u8]) -> Result<System, Refusal> {
     let (records, rest) = system.as_chunks::<RECORD>();
     if !rest.is_empty() {
         return Err(Refusal::new(SYSTEM_UNEVEN, 0));
@@ -69,29 +47,28 @@ pub fn check_system(system: &[u8]) -> Result<Given<'_>, Refusal> {
     if records.len() > MOST_RECORDS {
         return Err(Refusal::new(TOO_MANY_RECORDS, 0));
     }
-    let mut given = Given {
-        letters: [&[]; MOST_RECORDS],
+    let mut system = System {
+        words: [Word::EMPTY; MOST_RECORDS],
         count: records.len(),
     };
     for (slot, record) in records.iter().enumerate() {
-        given.letters[slot] = match record_letters(record) {
-            Ok(letters) => letters,
-            Err(fault) => {
-                let place = RECORD * slot + fault.place as usize;
-                return Err(Refusal::new(fault.number, place));
-            }
-        };
+        let letters = record_letters(record).map_err(|fault| Refusal {
+            place: fault.place + (RECORD * slot) as u64,
+            ..fault
+        })?;
+        system.words[slot] = Word::freely_reduced(letters);
     }
-    Ok(given)
+    Ok(system)
 }
 
 /// The letters of a target or product, or refusal 6.
-pub fn check_target_or_product(bytes: &[u8]) -> Result<&[u8], Refusal> {
-    let Ok(record) = <&[u8; RECORD]>::try_from(bytes) else {
-        return Err(Refusal::new(TARGET_OR_PRODUCT_MALFORMED, 0));
+pub fn read_target_or_product(bytes: &[u8]) -> Result<&[u8], Refusal> {
+    let malformed = |place| Refusal {
+        number: TARGET_OR_PRODUCT_MALFORMED,
+        place,
     };
-    record_letters(record)
-        .map_err(|fault| Refusal::new(TARGET_OR_PRODUCT_MALFORMED, fault.place as usize))
+    let record = bytes.try_into().map_err(|_| malformed(0))?;
+    record_letters(record).map_err(|fault| malformed(fault.place))
 }
 
 /// Checks that a buffer for words has room for this many records, by rule 10.
@@ -102,71 +79,35 @@ pub fn check_room_for_words(words: &[u8], records: usize) -> Result<(), Refusal>
     Ok(())
 }
 
-/// Ends a record after its letters with full stops and the line feed.
-#[inline]
-fn end_record(record: &mut [u8; RECORD], length: usize) {
-    record[length..LONGEST].fill(STOP);
-    record[LONGEST] = LINE_FEED;
+/// The slot that a letter names, if it is one of this many slots.
+pub fn slot_named(letter: u8, slots: usize) -> Option<usize> {
+    let slot = usize::from(letter.checked_sub(b'a')?);
+    (slot < slots).then_some(slot)
 }
 
-/// Writes at most 63 letters as a record.
+/// Writes at most 63 letters into the first 64 bytes of a buffer that is at least that long.
 #[inline]
-pub fn write_letters(letters: &[u8], record: &mut [u8; RECORD]) {
-    record[..letters.len()].copy_from_slice(letters);
-    end_record(record, letters.len());
+pub fn write_record(letters: &[u8], buffer: &mut [u8]) {
+    buffer[..letters.len()].copy_from_slice(letters);
+    buffer[letters.len()..LONGEST].fill(STOP);
+    buffer[LONGEST] = LINE_FEED;
 }
 
-/// Writes the free reduction of at most 63 letters as a record.
-#[inline]
-pub fn write_free_reduction(letters: &[u8], record: &mut [u8; RECORD]) {
-    let length = free_reduction(letters, record);
-    end_record(record, length);
-}
-
-/// The first 64 bytes of a buffer that is at least that long.
-#[inline]
-pub fn first_record(buffer: &mut [u8]) -> &mut [u8; RECORD] {
-    buffer
-        .first_chunk_mut()
-        .expect("the room was checked before")
-}
-
-/// The well-formed record of at most 63 letters given as text.
-pub fn record(text: &str) -> [u8; RECORD] {
+/// The well-formed record of at most 63 letters.
+pub fn record(letters: impl AsRef<[u8]>) -> [u8; RECORD] {
     let mut record = [0; RECORD];
-    write_letters(text.as_bytes(), &mut record);
+    write_record(letters.as_ref(), &mut record);
     record
 }
 
 /// The system of the words given as texts.
 pub fn system(texts: &[&str]) -> Vec<u8> {
-    texts.iter().flat_map(|text| record(text)).collect()
+    texts.iter().flat_map(record).collect()
 }
 
-impl<'a> Given<'a> {
-    /// The number of records.
-    pub fn count(&self) -> usize {
-        self.count
-    }
-
-    /// The letters of each record in order.
-    #[inline]
-    pub fn letters(&self) -> &[&'a [u8]] {
-        &self.letters[..self.count]
-    }
-
-    /// The freely reduced words.
-    #[inline]
-    pub fn freely_reduced(&self) -> System {
-        let mut system = System {
-            words: [Word::EMPTY; MOST_RECORDS],
-            count: self.count,
-        };
-        for (word, letters) in system.words.iter_mut().zip(self.letters()) {
-            *word = Word::freely_reduced(letters);
-        }
-        system
-    }
+/// The freely reduced words of a well-formed system.
+pub fn freely_reduced(system: &[u8]) -> System {
+    read_system(system).expect("the system is well formed")
 }
 
 impl System {
@@ -195,9 +136,8 @@ impl System {
     /// Writes each word into the 64 bytes of its own slot.
     #[inline]
     pub fn write(&self, buffer: &mut [u8]) {
-        let (records, _) = buffer.as_chunks_mut::<RECORD>();
-        for (word, record) in self.words().iter().zip(records) {
-            write_letters(word.letters(), record);
+        for (word, record) in self.words().iter().zip(buffer.chunks_exact_mut(RECORD)) {
+            write_record(word.letters(), record);
         }
     }
 }

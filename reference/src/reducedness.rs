@@ -2,40 +2,10 @@
 //! It goes by the definition, through all products of two and of three elements, not by the rules.
 
 use crate::answers::Answer;
-use crate::records::check_system;
+use crate::elements::elements;
+use crate::records::read_system;
 use crate::refusals::Refusal;
 use crate::words::{cancellation, Word};
-
-/// A word of the system or its inverse, with the slot it stands in.
-struct Element {
-    slot: usize,
-    inverted: bool,
-    word: Word,
-}
-
-impl Element {
-    /// Whether the other element is this one's own inverse.
-    fn is_own_inverse(&self, other: &Element) -> bool {
-        self.slot == other.slot && self.inverted != other.inverted
-    }
-}
-
-/// The words that are not empty, and their inverses.
-fn elements(words: &[Word]) -> Vec<Element> {
-    let mut elements = Vec::with_capacity(2 * words.len());
-    for (slot, word) in words.iter().enumerate() {
-        if !word.is_empty() {
-            for (inverted, word) in [(false, *word), (true, word.inverse())] {
-                elements.push(Element {
-                    slot,
-                    inverted,
-                    word,
-                });
-            }
-        }
-    }
-    elements
-}
 
 /// Whether the product of two elements cancels more than half of either.
 fn cancels_more_than_half(left: &Word, right: &Word) -> bool {
@@ -77,12 +47,17 @@ pub fn is_reduced(words: &[Word]) -> bool {
 
 /// Says whether the system is reduced after free reduction of its words.
 pub fn test(system: &[u8]) -> Answer {
-    test_or_refuse(system).unwrap_or_else(Answer::refused)
+    test_by(is_reduced, system)
+}
+
+/// Says what test says, by another decision on freely reduced words.
+pub fn test_by(is_reduced: impl Fn(&[Word]) -> bool, system: &[u8]) -> Answer {
+    test_or_refuse(is_reduced, system).unwrap_or_else(Answer::refused)
 }
 
 /// Does what test promises, or gives the refusal.
-fn test_or_refuse(system: &[u8]) -> Result<Answer, Refusal> {
-    let system = check_system(system)?.freely_reduced();
+fn test_or_refuse(is_reduced: impl Fn(&[Word]) -> bool, system: &[u8]) -> Result<Answer, Refusal> {
+    let system = read_system(system)?;
     Ok(Answer {
         reduced: u64::from(is_reduced(system.words())),
         ..Answer::done()

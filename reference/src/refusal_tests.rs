@@ -1,24 +1,20 @@
 //! Tests of every refusal in every call that can give it: number, place and untouched buffers.
 //! Two faults at once show the order in which they are tried.
 
-use crate::answers::{Answer, DONE, REFUSED};
+use crate::answers::{Answer, DONE};
 use crate::records::{record, system};
+use crate::refusals::*;
 use crate::{member, multiply, reduce, replay, show, test, tidy, Direction};
 
 const FILL: u8 = 0xEE;
 
 /// The answer of a refusal.
-fn refused(number: u64, place: u64) -> Answer {
-    Answer {
-        verdict: REFUSED,
-        number,
-        place,
-        ..Answer::default()
-    }
+fn refused(number: u64, place: usize) -> Answer {
+    Answer::refused(Refusal::new(number, place))
 }
 
 /// Checks that every call refuses this system with the same number and place and writes nothing.
-fn every_call_refuses(given: &[u8], number: u64, place: u64) {
+fn every_call_refuses(given: &[u8], number: u64, place: usize) {
     let expected = refused(number, place);
     let (mut words, mut log, mut product) = ([FILL; 64], [FILL; 5], [FILL; 3]);
     assert_eq!(tidy(given, &mut words), expected);
@@ -26,7 +22,7 @@ fn every_call_refuses(given: &[u8], number: u64, place: u64) {
     assert_eq!(test(given), expected);
     let answer = member(given, b"bad", &mut words, &mut log, &mut product);
     assert_eq!(answer, expected);
-    for direction in [Direction::Forward, Direction::Backward] {
+    for direction in Direction::BOTH {
         assert_eq!(replay(given, b"a1", direction, &mut words), expected);
     }
     assert_eq!(multiply(given, b"bad", &mut words), expected);
@@ -39,9 +35,9 @@ fn lengths() {
     let given = system(&["ab"; 20]);
     for length in 0..given.len() {
         if length % 64 != 0 {
-            every_call_refuses(&given[..length], 1, 0);
+            every_call_refuses(&given[..length], SYSTEM_UNEVEN, 0);
         } else if length > 1024 {
-            every_call_refuses(&given[..length], 2, 0);
+            every_call_refuses(&given[..length], TOO_MANY_RECORDS, 0);
         }
     }
 }
@@ -52,15 +48,15 @@ fn malformed_records() {
     for slot in 0..16 {
         let mut given = system(&["abc"; 16]);
         given[64 * slot + 63] = b'.';
-        every_call_refuses(&given, 3, 64 * slot as u64 + 63);
+        every_call_refuses(&given, NO_LINE_FEED, 64 * slot + 63);
         for byte in 0..63 {
             let place = 64 * slot + byte;
             let mut given = system(&["abc"; 16]);
             given[place] = b'\n';
-            every_call_refuses(&given, 4, place as u64);
+            every_call_refuses(&given, NEITHER_LETTER_NOR_STOP, place);
             if byte > 3 {
                 given[place] = b'z';
-                every_call_refuses(&given, 5, place as u64);
+                every_call_refuses(&given, LETTER_AFTER_STOP, place);
             }
         }
     }
@@ -68,14 +64,14 @@ fn malformed_records() {
     given[10] = b'x';
     given[20] = b'?';
     given[127] = b'.';
-    every_call_refuses(&given, 4, 20);
+    every_call_refuses(&given, NEITHER_LETTER_NOR_STOP, 20);
     given[63] = 0;
-    every_call_refuses(&given, 3, 63);
+    every_call_refuses(&given, NO_LINE_FEED, 63);
     given[63] = b'\n';
     given[20] = b'.';
-    every_call_refuses(&given, 5, 10);
+    every_call_refuses(&given, LETTER_AFTER_STOP, 10);
     given[10] = b'.';
-    every_call_refuses(&given, 3, 127);
+    every_call_refuses(&given, NO_LINE_FEED, 127);
 }
 
 /// Refusal 6 of target and product, before 9, 10 and 11.
@@ -91,7 +87,7 @@ fn malformed_targets() {
         cases.push((bytes.to_vec(), expected));
     }
     for (bytes, place) in cases {
-        let expected = refused(6, place);
+        let expected = refused(TARGET_OR_PRODUCT_MALFORMED, place);
         assert_eq!(
             member(&given, &bytes, &mut [], &mut [], &mut []),
             expected,
@@ -105,11 +101,13 @@ fn malformed_targets() {
 #[test]
 fn malformed_logs() {
     let given = system(&["ab", "b", "c"]);
-    let both = [Direction::Forward, Direction::Backward];
-    for direction in both {
+    for direction in Direction::BOTH {
         for length in [1, 2, 3, 5, 6, 7] {
             let log = &b"a1b?a1b\n"[..length];
-            assert_eq!(replay(&given, log, direction, &mut []), refused(7, 0));
+            assert_eq!(
+                replay(&given, log, direction, &mut []),
+                refused(LOG_UNEVEN, 0)
+            );
         }
         let bad = [
             "a1a\n", "a0b\n", "a5b\n", "A1b\n", "a1B\n", "d1a\n", "a1d\n", "a1b.", "q1a\n",
@@ -118,12 +116,18 @@ fn malformed_logs() {
         for record in bad {
             let log = format!("a1b\nc4a\n{record}a1a\n");
             let answer = replay(&given, log.as_bytes(), direction, &mut []);
-            assert_eq!(answer, refused(8, 8), "{record:?}");
+            assert_eq!(answer, refused(LOG_RECORD_MALFORMED, 8), "{record:?}");
         }
-        assert_eq!(replay(&[], b"a1b\n", direction, &mut []), refused(8, 0));
+        assert_eq!(
+            replay(&[], b"a1b\n", direction, &mut []),
+            refused(LOG_RECORD_MALFORMED, 0)
+        );
         assert_eq!(replay(&[], b"", direction, &mut []), Answer::done());
         let one = record("ab");
-        assert_eq!(replay(&one, b"a1b\n", direction, &mut []), refused(8, 0));
+        assert_eq!(
+            replay(&one, b"a1b\n", direction, &mut []),
+            refused(LOG_RECORD_MALFORMED, 0)
+        );
     }
 }
 
@@ -133,9 +137,15 @@ fn missing_slots() {
     let given = system(&["ab", "b"]);
     let mut word = [FILL; 63];
     let answer = multiply(&given, &record("abBACa"), &mut word);
-    assert_eq!(answer, refused(9, 4));
-    assert_eq!(multiply(&[], &record("z"), &mut word), refused(9, 0));
-    assert_eq!(multiply(&given, &record("aZ"), &mut word), refused(9, 1));
+    assert_eq!(answer, refused(SLOT_MISSING, 4));
+    assert_eq!(
+        multiply(&[], &record("z"), &mut word),
+        refused(SLOT_MISSING, 0)
+    );
+    assert_eq!(
+        multiply(&given, &record("aZ"), &mut word),
+        refused(SLOT_MISSING, 1)
+    );
     assert_eq!(word, [FILL; 63]);
     let mut word = [FILL; 65];
     assert_eq!(multiply(&[], &record(""), &mut word), Answer::done());
@@ -149,22 +159,25 @@ fn short_buffers() {
     let given = system(&["ab", "b"]);
     let target = record("a");
     let mut words = [FILL; 128];
-    let ten = refused(10, 0);
-    assert_eq!(tidy(&given, &mut words[..127]), ten);
-    assert_eq!(reduce(&given, &mut words[..127], &mut []), ten);
+    let refused_words = refused(WORDS_BUFFER_SHORT, 0);
+    assert_eq!(tidy(&given, &mut words[..127]), refused_words);
+    assert_eq!(reduce(&given, &mut words[..127], &mut []), refused_words);
     assert_eq!(
         member(&given, &target, &mut words[..127], &mut [], &mut []),
-        ten
+        refused_words
     );
     let log = b"a1b\n".repeat(100);
-    for direction in [Direction::Forward, Direction::Backward] {
-        assert_eq!(replay(&given, &log, direction, &mut words[..127]), ten);
+    for direction in Direction::BOTH {
+        assert_eq!(
+            replay(&given, &log, direction, &mut words[..127]),
+            refused_words
+        );
     }
-    let long = record(&"a".repeat(63));
-    assert_eq!(multiply(&given, &long, &mut words[..63]), ten);
+    let long = record("a".repeat(63));
+    assert_eq!(multiply(&given, &long, &mut words[..63]), refused_words);
     let mut product = [FILL; 63];
     let answer = member(&given, &target, &mut words, &mut [], &mut product);
-    assert_eq!(answer, refused(11, 0));
+    assert_eq!(answer, refused(PRODUCT_BUFFER_SHORT, 0));
     assert_eq!(words, [FILL; 128]);
     assert_eq!(product, [FILL; 63]);
 }
@@ -176,10 +189,10 @@ fn too_long_in_replay() {
     let mut words = [FILL; 128];
     let log = b"a1b\na3b\na3b\na3b\na3b\n";
     let answer = replay(&given, log, Direction::Forward, &mut words);
-    assert_eq!(answer, refused(12, 4));
+    assert_eq!(answer, refused(WORD_TOO_LONG, 4));
     let log = b"a4b\na4b\na4b\na4b\na2b\n";
     let answer = replay(&given, log, Direction::Backward, &mut words);
-    assert_eq!(answer, refused(12, 2));
+    assert_eq!(answer, refused(WORD_TOO_LONG, 2));
     assert_eq!(words, [FILL; 128]);
     let answer = replay(&given, &log[4..16], Direction::Backward, &mut words);
     assert_eq!(answer, Answer::done());
@@ -191,18 +204,21 @@ fn too_long_in_replay() {
 fn too_long_in_multiply() {
     let given = system(&[&"ab".repeat(31), "c"]);
     let mut word = [FILL; 64];
-    assert_eq!(multiply(&given, &record("abb"), &mut word), refused(12, 0));
+    assert_eq!(
+        multiply(&given, &record("abb"), &mut word),
+        refused(WORD_TOO_LONG, 0)
+    );
     assert_eq!(word, [FILL; 64]);
     let there_and_back = format!("{}b{}", "a".repeat(31), "A".repeat(31));
-    let answer = multiply(&given, &record(&there_and_back), &mut word);
-    assert_eq!(answer, refused(12, 0));
+    let answer = multiply(&given, &record(there_and_back), &mut word);
+    assert_eq!(answer, refused(WORD_TOO_LONG, 0));
     let there_and_back = format!("{}{}b", "a".repeat(31), "A".repeat(31));
-    let answer = multiply(&given, &record(&there_and_back), &mut word);
+    let answer = multiply(&given, &record(there_and_back), &mut word);
     assert_eq!(answer, Answer::done());
     assert_eq!(word, record("c"));
     let answer = multiply(&given, &record("ab"), &mut word);
     assert_eq!(answer, Answer::done());
-    assert_eq!(word, record(&format!("{}c", "ab".repeat(31))));
+    assert_eq!(word, record(format!("{}c", "ab".repeat(31))));
 }
 
 /// Refusal 13 keeps the moves that fitted and touches nothing else.
@@ -228,8 +244,8 @@ fn short_log_keeps_what_fitted() {
         assert!(log[kept..].iter().all(|&byte| byte == FILL));
         assert_eq!(log, other_log);
         if length < 16 {
-            assert_eq!(answer, refused(13, 0));
-            assert_eq!(member_answer, refused(13, 0));
+            assert_eq!(answer, refused(LOG_BUFFER_SHORT, 0));
+            assert_eq!(member_answer, refused(LOG_BUFFER_SHORT, 0));
             assert_eq!((words, product), ([FILL; 128], [FILL; 64]));
         } else {
             assert_eq!(answer.numbers(), [DONE, 0, 0, 4, 1, 0, 0]);

@@ -2,16 +2,20 @@
 //! The words are freely reduced first, and so is each result.
 
 use crate::answers::Answer;
-use crate::moves::{check_log, Move, LOG_RECORD};
-use crate::records::{check_room_for_words, check_system};
+use crate::moves::read_log;
+use crate::records::{check_room_for_words, read_system};
 use crate::refusals::{Refusal, WORD_TOO_LONG};
-use crate::words::Word;
 
 /// Which way a log is run; backward undoes the last move first.
 #[derive(Clone, Copy, Debug, PartialEq, Eq)]
 pub enum Direction {
     Forward,
     Backward,
+}
+
+impl Direction {
+    /// Both directions.
+    pub const BOTH: [Direction; 2] = [Direction::Forward, Direction::Backward];
 }
 
 /// Writes the system after the log into the buffer for words.
@@ -26,36 +30,21 @@ fn replay_or_refuse(
     direction: Direction,
     words: &mut [u8],
 ) -> Result<Answer, Refusal> {
-    let given = check_system(system)?;
-    let records = check_log(log, given.count())?;
-    check_room_for_words(words, given.count())?;
-    let mut system = given.freely_reduced();
-    match direction {
-        Direction::Forward => run_forward(records, system.words_mut())?,
-        Direction::Backward => run_backward(records, system.words_mut())?,
+    let mut system = read_system(system)?;
+    let moves = read_log(log, system.count())?;
+    check_room_for_words(words, system.count())?;
+    for turn in 1..=moves.len() {
+        let (number, step) = match direction {
+            Direction::Forward => (turn, moves[turn - 1]),
+            Direction::Backward => {
+                let number = moves.len() + 1 - turn;
+                (number, moves[number - 1].undoing())
+            }
+        };
+        if !step.make(system.words_mut()) {
+            return Err(Refusal::new(WORD_TOO_LONG, number));
+        }
     }
     system.write(words);
     Ok(Answer::done())
-}
-
-/// Makes the moves of a checked log in order.
-fn run_forward(records: &[[u8; LOG_RECORD]], words: &mut [Word]) -> Result<(), Refusal> {
-    for (index, record) in records.iter().enumerate() {
-        let step = Move::read(record, words.len()).expect("the log was checked before");
-        if !step.make(words) {
-            return Err(Refusal::new(WORD_TOO_LONG, index + 1));
-        }
-    }
-    Ok(())
-}
-
-/// Undoes the moves of a checked log, the last first.
-fn run_backward(records: &[[u8; LOG_RECORD]], words: &mut [Word]) -> Result<(), Refusal> {
-    for (index, record) in records.iter().enumerate().rev() {
-        let step = Move::read(record, words.len()).expect("the log was checked before");
-        if !step.undoing().make(words) {
-            return Err(Refusal::new(WORD_TOO_LONG, index + 1));
-        }
-    }
-    Ok(())
 }

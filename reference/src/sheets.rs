@@ -23,6 +23,17 @@ pub struct Sheet {
     pub independent: Option<bool>,
 }
 
+/// A sheet that states nothing.
+const UNSTATED: Sheet = Sheet {
+    name: "",
+    given: &[],
+    target: Target::None,
+    log: None,
+    reduced: None,
+    rank: None,
+    independent: None,
+};
+
 /// The records that the sheets on tidy give, with what they are tidied to.
 pub const TIDY: [(&str, &str, &str); 2] = [("P1", "aAbBc", "c"), ("P2", "abBA", "")];
 
@@ -52,8 +63,7 @@ pub const SHEETS: [Sheet; 11] = [
         target: Target::Member("Cd", "Bc"),
         log: Some("c1a\n"),
         reduced: Some(&["ab", "ac", "ad"]),
-        rank: None,
-        independent: None,
+        ..UNSTATED
     },
     Sheet {
         name: "P6",
@@ -61,8 +71,7 @@ pub const SHEETS: [Sheet; 11] = [
         target: Target::NotMember("d"),
         log: Some("c1a\n"),
         reduced: Some(&["ab", "ac", "ad"]),
-        rank: None,
-        independent: None,
+        ..UNSTATED
     },
     Sheet {
         name: "P7",
@@ -70,17 +79,13 @@ pub const SHEETS: [Sheet; 11] = [
         target: Target::Member("adbAcACaBD", "acbABC"),
         log: Some(""),
         reduced: Some(&["a", "BAc", "dbb"]),
-        rank: None,
-        independent: None,
+        ..UNSTATED
     },
     Sheet {
         name: "P8",
         given: &["ab"],
         target: Target::NotMember("ba"),
-        log: None,
-        reduced: None,
-        rank: None,
-        independent: None,
+        ..UNSTATED
     },
     Sheet {
         name: "P9",
@@ -95,37 +100,30 @@ pub const SHEETS: [Sheet; 11] = [
         name: "P10",
         given: &[],
         target: Target::NotMember("a"),
-        log: None,
-        reduced: None,
-        rank: None,
-        independent: None,
+        ..UNSTATED
     },
     Sheet {
         name: "P11",
         given: &["ab", "ab"],
         target: Target::Member("abab", "bb"),
         log: Some("a2b\n"),
-        reduced: None,
         rank: Some(1),
         independent: Some(false),
+        ..UNSTATED
     },
     Sheet {
         name: "P12",
         given: &["aA", "b"],
-        target: Target::None,
-        log: None,
-        reduced: None,
         rank: Some(1),
         independent: Some(true),
+        ..UNSTATED
     },
     Sheet {
         name: "Nielsen's four words",
         given: &["dbAc", "aaBBD", "BAcBAc", "dbbABAc"],
-        target: Target::None,
-        log: None,
-        reduced: None,
         rank: Some(3),
         independent: Some(false),
+        ..UNSTATED
     },
 ];
 
@@ -133,10 +131,11 @@ pub const SHEETS: [Sheet; 11] = [
 mod tests {
     use super::*;
     use crate::answers::{Answer, DONE, MEMBER, NOT_A_MEMBER, REFUSED};
-    use crate::graph::traces;
-    use crate::records::{check_system, record, system};
-    use crate::words::Word;
-    use crate::{member, multiply, reduce, replay, test, tidy, Direction};
+    use crate::decision::check_decision;
+    use crate::records::{record, system};
+    use crate::reduction::{reduction, Reduction};
+    use crate::refusals::*;
+    use crate::{member, replay, test, tidy, Direction};
 
     const FILL: u8 = 0xEE;
 
@@ -159,11 +158,10 @@ mod tests {
     /// Checks the numbers, words and log of an answer against a sheet.
     fn check_reduction(sheet: &Sheet, answer: Answer, words: &[u8], log: &[u8]) {
         let name = sheet.name;
-        let logged = 4 * answer.moves as usize;
+        assert_eq!(log.len() as u64, 4 * answer.moves, "{name}");
         if let Some(expected) = sheet.log {
-            assert_eq!(&log[..logged], expected.as_bytes(), "{name}");
+            assert_eq!(log, expected.as_bytes(), "{name}");
         }
-        assert!(log[logged..].iter().all(|&byte| byte == FILL), "{name}");
         if let Some(expected) = sheet.reduced {
             assert_eq!(words, system(expected), "{name}");
         }
@@ -180,18 +178,15 @@ mod tests {
     fn reduce_sheets() {
         for sheet in &SHEETS {
             let given = system(sheet.given);
-            let mut words = vec![FILL; given.len()];
-            let mut log = [FILL; 400];
-            let answer = reduce(&given, &mut words, &mut log);
+            let Reduction { answer, words, log } = reduction(&given);
             assert_eq!(answer.verdict, DONE);
             check_reduction(sheet, answer, &words, &log);
             assert_eq!(test(&words).reduced, 1);
             assert_eq!(test(&given).reduced, u64::from(answer.moves == 0));
-            let moves = &log[..4 * answer.moves as usize];
             let mut after = vec![FILL; given.len()];
-            replay(&given, moves, Direction::Forward, &mut after);
+            replay(&given, &log, Direction::Forward, &mut after);
             assert_eq!(after, words);
-            replay(&words, moves, Direction::Backward, &mut after);
+            replay(&words, &log, Direction::Backward, &mut after);
             assert_eq!(after, tidied(sheet.given));
         }
     }
@@ -200,44 +195,30 @@ mod tests {
     #[test]
     fn member_sheets() {
         for sheet in &SHEETS {
-            let (target, expected) = match sheet.target {
+            let (target, verdict, expected) = match sheet.target {
                 Target::None => continue,
-                Target::Member(target, product) => (target, Some(product)),
-                Target::NotMember(target) => (target, None),
+                Target::Member(target, product) => (target, MEMBER, record(product)),
+                Target::NotMember(target) => (target, NOT_A_MEMBER, [FILL; 64]),
             };
             let given = system(sheet.given);
+            let target = record(target);
             let mut words = vec![FILL; given.len()];
-            let mut log = [FILL; 400];
+            let mut log = reduction(&given).log;
+            log.fill(FILL);
             let mut product = [FILL; 64];
-            let answer = member(&given, &record(target), &mut words, &mut log, &mut product);
+            let answer = member(&given, &target, &mut words, &mut log, &mut product);
             check_reduction(sheet, answer, &words, &log);
-            let word = Word::freely_reduced(target.as_bytes());
-            let freely_reduced = check_system(&given).unwrap().freely_reduced();
-            let traced = traces(freely_reduced.words(), &word);
-            match expected {
-                Some(expected) => {
-                    assert_eq!(answer.verdict, MEMBER, "{}", sheet.name);
-                    assert_eq!(product, record(expected), "{}", sheet.name);
-                    let mut multiplied = [FILL; 64];
-                    multiply(&words, &product, &mut multiplied);
-                    assert_eq!(multiplied, tidied(&[target])[..], "{}", sheet.name);
-                }
-                None => {
-                    assert_eq!(answer.verdict, NOT_A_MEMBER, "{}", sheet.name);
-                    assert_eq!(product, [FILL; 64], "{}", sheet.name);
-                }
-            }
-            assert_eq!(traced, expected.is_some(), "{}", sheet.name);
+            assert_eq!(answer.verdict, verdict, "{}", sheet.name);
+            assert_eq!(product, expected, "{}", sheet.name);
+            let checked = check_decision([&given, &target], [&words, &log, &product], answer);
+            assert_eq!(checked, Ok(()), "{}", sheet.name);
         }
     }
 
     /// Nielsen's four words are reduced to three words of 7 letters in all.
     #[test]
     fn nielsens_four_words() {
-        let given = system(&["dbAc", "aaBBD", "BAcBAc", "dbbABAc"]);
-        let mut words = [FILL; 256];
-        let mut log = [FILL; 400];
-        reduce(&given, &mut words, &mut log);
+        let words = reduction(&system(&["dbAc", "aaBBD", "BAcBAc", "dbbABAc"])).words;
         let letters = words.iter().filter(|byte| byte.is_ascii_alphabetic());
         assert_eq!(letters.count(), 7);
     }
@@ -253,7 +234,7 @@ mod tests {
         assert_eq!(tidy(&records[..1024], &mut words), Answer::done());
         assert_eq!(&words[..1024], &records[..1024]);
         assert_eq!(words[1024..], [FILL; 64]);
-        for (length, number) in [(1088, 2), (63, 1)] {
+        for (length, number) in [(1088, TOO_MANY_RECORDS), (63, SYSTEM_UNEVEN)] {
             let mut words = [FILL; 1088];
             let answer = tidy(&records[..length], &mut words);
             assert_eq!(answer.numbers(), [REFUSED, number, 0, 0, 0, 0, 0]);
@@ -271,7 +252,7 @@ mod tests {
         let mut product = [FILL; 64];
         let target = record("a");
         let answer = member(&given, &target, &mut words, &mut log[..3], &mut product);
-        assert_eq!(answer.numbers(), [REFUSED, 13, 0, 0, 0, 0, 0]);
+        assert_eq!(answer.numbers(), [REFUSED, LOG_BUFFER_SHORT, 0, 0, 0, 0, 0]);
         assert_eq!((words, log, product), ([FILL; 128], [FILL; 4], [FILL; 64]));
         let answer = member(&given, &target, &mut words, &mut log, &mut product);
         assert_eq!(answer.numbers(), [MEMBER, 0, 0, 1, 2, 1, 0]);

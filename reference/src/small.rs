@@ -1,7 +1,7 @@
 //! All short words and all small systems of them, for comparisons that leave out nothing.
 //! Words are freely reduced and come in the order of their lengths.
 
-use crate::random::push_record;
+use crate::records::record;
 use crate::words::inverse_letter;
 
 /// The letters and capitals of the first generators.
@@ -31,13 +31,19 @@ pub fn words(generators: usize, longest: usize) -> Vec<Vec<u8>> {
     words
 }
 
-/// Lends every system of this many of the words.
-pub fn for_each_system(words: &[Vec<u8>], records: usize, mut lend: impl FnMut(&[u8])) {
+/// Lends every system of this many freely reduced words over the first generators, up to a length.
+pub fn for_each_system(
+    generators: usize,
+    longest: usize,
+    records: usize,
+    mut lend: impl FnMut(&[u8]),
+) {
+    let words = words(generators, longest);
     for number in 0..words.len().pow(records as u32) {
         let mut system = Vec::new();
         let mut rest = number;
         for _ in 0..records {
-            push_record(&mut system, &words[rest % words.len()]);
+            system.extend(record(&words[rest % words.len()]));
             rest /= words.len();
         }
         lend(&system);
@@ -55,7 +61,7 @@ mod tests {
         assert_eq!(words(2, 3).len(), 1 + 4 + 12 + 36);
         assert_eq!(words(1, 5).len(), 11);
         let mut systems = 0;
-        for_each_system(&words(2, 2), 3, |system| {
+        for_each_system(2, 2, 3, |system| {
             assert_eq!(system.len(), 192);
             systems += 1;
         });

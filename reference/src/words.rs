@@ -1,5 +1,5 @@
 //! Words of at most 63 letters a to z and A to Z, where a capital is the inverse of its letter.
-//! Free reduction, inverses, and counts of the letters that cancel between two words.
+//! Free reduction, inverses, products, and what two words share.
 
 /// The most letters that a word may have.
 pub const LONGEST: usize = 63;
@@ -15,6 +15,11 @@ pub struct Word {
 #[inline]
 pub fn inverse_letter(letter: u8) -> u8 {
     letter ^ 0x20
+}
+
+/// The letters backward with case changed.
+pub fn inverse_letters(letters: &[u8]) -> Vec<u8> {
+    letters.iter().rev().copied().map(inverse_letter).collect()
 }
 
 /// Writes the free reduction of the letters at the start of the room and returns its length.
@@ -46,21 +51,6 @@ pub fn common_beginning(one: &[u8], other: &[u8]) -> usize {
     pairs.take_while(|(a, b)| a == b).count()
 }
 
-/// How many letters two words share at their ends.
-#[inline]
-pub fn common_end(one: &[u8], other: &[u8]) -> usize {
-    let pairs = one.iter().rev().zip(other.iter().rev());
-    pairs.take_while(|(a, b)| a == b).count()
-}
-
-/// Copies the inverse of the letters into a room of the same length.
-#[inline]
-pub fn copy_inverse(letters: &[u8], room: &mut [u8]) {
-    for (place, &letter) in room.iter_mut().zip(letters.iter().rev()) {
-        *place = inverse_letter(letter);
-    }
-}
-
 impl Word {
     /// The empty word.
     pub const EMPTY: Word = Word {
@@ -79,7 +69,7 @@ impl Word {
     /// The letters of the word.
     #[inline]
     pub fn letters(&self) -> &[u8] {
-        &self.letters[..usize::from(self.length)]
+        &self.letters[..self.len()]
     }
 
     /// The number of letters.
@@ -95,82 +85,44 @@ impl Word {
     }
 
     /// The letters backward with case changed.
+    #[inline]
     pub fn inverse(&self) -> Word {
-        let mut inverse = Word::EMPTY;
-        inverse.length = self.length;
-        copy_inverse(self.letters(), &mut inverse.letters[..self.len()]);
+        let mut inverse = *self;
+        for (place, &letter) in inverse.letters.iter_mut().zip(self.letters().iter().rev()) {
+            *place = inverse_letter(letter);
+        }
         inverse
     }
 
-    /// Drops letters at the beginning and gives room for others there, if the result is not too long.
+    /// The free reduction of this word followed by the other, if it has at most 63 letters. Both are
+    /// freely reduced, so letters cancel only where the two meet.
     #[inline]
-    fn replace_beginning(&mut self, dropped: usize, length: usize) -> Option<&mut [u8]> {
-        let kept = self.len() - dropped;
-        if length + kept > LONGEST {
-            return None;
-        }
-        self.letters.copy_within(dropped..dropped + kept, length);
-        self.length = (length + kept) as u8;
-        Some(&mut self.letters[..length])
-    }
-
-    /// Drops letters at the end and gives room for others there, if the result is not too long.
-    #[inline]
-    fn replace_end(&mut self, dropped: usize, length: usize) -> Option<&mut [u8]> {
-        let kept = self.len() - dropped;
-        if kept + length > LONGEST {
-            return None;
-        }
-        self.length = (kept + length) as u8;
-        Some(&mut self.letters[kept..kept + length])
-    }
-
-    /// Puts the other word before this one; false, and no change, if the result is over 63 letters.
-    #[inline]
-    pub fn put_before(&mut self, other: &Word) -> bool {
-        let cancelled = cancellation(other.letters(), self.letters());
-        let rest = &other.letters()[..other.len() - cancelled];
-        match self.replace_beginning(cancelled, rest.len()) {
-            Some(room) => room.copy_from_slice(rest),
-            None => return false,
-        }
-        true
-    }
-
-    /// Puts the other word's inverse before this one; false, and no change, if that is over 63 letters.
-    #[inline]
-    pub fn put_inverse_before(&mut self, other: &Word) -> bool {
-        let cancelled = common_beginning(other.letters(), self.letters());
-        let rest = &other.letters()[cancelled..];
-        match self.replace_beginning(cancelled, rest.len()) {
-            Some(room) => copy_inverse(rest, room),
-            None => return false,
-        }
-        true
-    }
-
-    /// Puts the other word after this one; false, and no change, if the result is over 63 letters.
-    #[inline]
-    pub fn put_after(&mut self, other: &Word) -> bool {
+    pub fn times(&self, other: &Word) -> Option<Word> {
         let cancelled = cancellation(self.letters(), other.letters());
+        let kept = self.len() - cancelled;
         let rest = &other.letters()[cancelled..];
-        match self.replace_end(cancelled, rest.len()) {
-            Some(room) => room.copy_from_slice(rest),
-            None => return false,
-        }
-        true
+        let mut product = *self;
+        let room = product.letters.get_mut(kept..kept + rest.len())?;
+        room.copy_from_slice(rest);
+        product.length = (kept + rest.len()) as u8;
+        Some(product)
     }
 
-    /// Puts the other word's inverse after this one; false, and no change, if that is over 63 letters.
-    #[inline]
-    pub fn put_inverse_after(&mut self, other: &Word) -> bool {
-        let cancelled = common_end(self.letters(), other.letters());
-        let rest = &other.letters()[..other.len() - cancelled];
-        match self.replace_end(cancelled, rest.len()) {
-            Some(room) => copy_inverse(rest, room),
-            None => return false,
-        }
-        true
+    /// The two halves of a word of even length.
+    pub fn halves(&self) -> Option<(Word, Word)> {
+        let (first, second) = self.letters().split_at(self.len() / 2);
+        (first.len() == second.len())
+            .then(|| (Word::freely_reduced(first), Word::freely_reduced(second)))
+    }
+
+    /// Whether the word begins with the other.
+    pub fn begins_with(&self, other: &Word) -> bool {
+        self.letters().starts_with(other.letters())
+    }
+
+    /// Whether the word ends with the other.
+    pub fn ends_with(&self, other: &Word) -> bool {
+        self.letters().ends_with(other.letters())
     }
 }
 
@@ -225,53 +177,35 @@ mod tests {
         }
     }
 
-    /// The four ways of putting one word beside another give the free reduction of the row.
+    /// A product is the free reduction of the row of both words, and there is none over 63 letters.
     #[test]
-    fn four_products() {
+    fn products() {
         let mut random = Random::new(2);
         for _ in 0..5000 {
             let generators = 1 + random.below(2);
-            let length = random.below(64);
-            let one = Word::freely_reduced(&random.reduced_letters(generators, length));
-            let length = random.below(64);
-            let two = Word::freely_reduced(&random.reduced_letters(generators, length));
-            let inverse = one.inverse();
-            let rows = [
-                [one.letters(), two.letters()].concat(),
-                [inverse.letters(), two.letters()].concat(),
-                [two.letters(), one.letters()].concat(),
-                [two.letters(), inverse.letters()].concat(),
-            ];
-            let ways = [
-                Word::put_before,
-                Word::put_inverse_before,
-                Word::put_after,
-                Word::put_inverse_after,
-            ];
-            for (row, way) in rows.iter().zip(ways) {
-                let expected = by_removing_pairs(row);
-                let mut changed = two;
-                let fits = way(&mut changed, &one);
-                assert_eq!(fits, expected.len() <= LONGEST);
-                if fits {
-                    assert_eq!(changed.letters(), expected);
-                } else {
-                    assert_eq!(changed, two);
-                }
+            let [one, two] = [(); 2].map(|()| {
+                let length = random.below(64);
+                Word::freely_reduced(&random.reduced_letters(generators, length))
+            });
+            let expected = by_removing_pairs(&[one.letters(), two.letters()].concat());
+            match one.times(&two) {
+                Some(product) => assert_eq!(product.letters(), expected),
+                None => assert!(expected.len() > LONGEST),
             }
         }
     }
 
-    /// Small examples of inverses and counts.
+    /// Small examples of inverses, halves and counts.
     #[test]
     fn small_examples() {
         assert_eq!(word("aAbBc"), word("c"));
         assert!(word("abBA").is_empty());
         assert_eq!(word("abC").inverse(), word("cBA"));
+        assert_eq!(word("aB").inverse().inverse(), word("aB"));
+        assert_eq!(word("abCd").halves(), Some((word("ab"), word("Cd"))));
+        assert_eq!(word("abC").halves(), None);
         assert_eq!(cancellation(b"abc", b"CBd"), 2);
         assert_eq!(cancellation(b"ab", b"BA"), 2);
         assert_eq!(common_beginning(b"abc", b"abd"), 2);
-        assert_eq!(common_end(b"abc", b"bc"), 2);
-        assert_eq!(word("aB").inverse().inverse(), word("aB"));
     }
 }

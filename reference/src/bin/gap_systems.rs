@@ -2,8 +2,9 @@
 //! the capital A is -1, with the rank and the memberships that the Rust version finds.
 
 use subgroups_reference::graph::traces;
-use subgroups_reference::measured::{reduction, Measured};
-use subgroups_reference::random::freely_reduced;
+use subgroups_reference::measured::Measured;
+use subgroups_reference::records::freely_reduced;
+use subgroups_reference::reduction::reduction;
 use subgroups_reference::words::Word;
 
 const SYSTEMS: usize = 200;
@@ -33,7 +34,7 @@ fn main() {
         println!("Add(kinds, rec(independent := {independent}, systems := [");
         for system in kind.systems(SYSTEMS) {
             let words = freely_reduced(&system);
-            let rank = freely_reduced(&reduction(&system).0).rank();
+            let rank = reduction(&system).answer.rank;
             let targets = kind.targets(&system, TARGETS);
             let members: Vec<String> = targets
                 .iter()

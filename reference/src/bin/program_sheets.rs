@@ -5,8 +5,8 @@ use std::path::Path;
 use std::{env, fs, io, process};
 use subgroups_reference::graph::traces;
 use subgroups_reference::program::program;
-use subgroups_reference::random::{freely_reduced, push_record, Kind, Random};
-use subgroups_reference::records::{system, MOST_RECORDS, RECORD};
+use subgroups_reference::random::{Kind, Random};
+use subgroups_reference::records::{freely_reduced, record, system, MOST_RECORDS, RECORD};
 use subgroups_reference::sheets::{Target, SHEETS};
 use subgroups_reference::words::{Word, LONGEST};
 
@@ -34,7 +34,7 @@ fn worked_sheets() -> Vec<Case> {
     cases
 }
 
-/// Examples of document 000, and a few systems with many moves or with blank slots.
+/// Nielsen's examples, and a few systems with many moves or with blank slots.
 fn examples() -> Vec<Case> {
     let full = "abcdefgabcdefgabcdefgabcdefgabcdefgabcdefgabcdefgabcdefgabcdefg";
     let powers: Vec<String> = (0..MOST_RECORDS)
@@ -163,7 +163,7 @@ fn random_cases() -> Vec<Case> {
             0 => random.unreduced(target.letters(), generators),
             _ => target.letters().to_vec(),
         };
-        push_record(&mut input, &letters);
+        input.extend(record(letters));
         let output = program(&input);
         let first_line = output.split(|&byte| byte == b'\n').next();
         let ending: &[u8] = if member { b"member yes" } else { b"member no" };

@@ -1,8 +1,9 @@
-//! Times the proved library against the Rust version, both in one run and by turns.
-//! Each line gives the time of one call on either side and their ratio.
+//! Times the proved library against the Rust version, both in one run and by turns. Each line gives
+//! the time of one call on either side and their ratio. For test, reduce and member the Rust side
+//! goes by the quick search; all else there is the plain version, which is not written for speed.
 
-#[path = "../compare/library.rs"]
-mod library;
+#[path = "../compare/entries.rs"]
+mod entries;
 mod member;
 mod multiply;
 mod reduce;

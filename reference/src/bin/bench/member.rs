@@ -2,19 +2,26 @@
 //! the time is that of all thirty. Targets are by turns members and words that differ from a member
 //! in one letter.
 
-use crate::library;
-use crate::timing;
-use std::hint::black_box;
+use crate::entries::{Entry, MEMBER};
+use crate::timing::{line, time};
 use subgroups_reference::measured::Measured;
-use subgroups_reference::random::push_record;
-use subgroups_reference::records::{MOST_RECORDS, RECORD};
-use subgroups_reference::words::LONGEST;
+use subgroups_reference::moves::LOG_RECORD;
+use subgroups_reference::program::MOST_MOVES;
+use subgroups_reference::quick_search;
+use subgroups_reference::records::{record, MOST_RECORDS, RECORD};
+use subgroups_reference::words::{Word, LONGEST};
 
 const SYSTEMS: usize = 100;
 const TARGETS: usize = 30;
 
-/// The length of the log that is lent: that of the program.
-const LOG: usize = 4 * 16_384;
+/// The lengths of the buffers that are lent: the log is that of the program.
+const LENGTHS: [usize; 3] = [RECORD * MOST_RECORDS, LOG_RECORD * MOST_MOVES, RECORD];
+
+/// Member, by the quick search on the Rust side.
+const QUICK_MEMBER: Entry<2, 3> = Entry {
+    rust: quick_search::member,
+    ..MEMBER
+};
 
 /// Times systems of several kinds.
 pub fn bench() {
@@ -27,81 +34,36 @@ pub fn bench() {
                 longest,
                 independent,
             };
-            let systems = kind.systems(SYSTEMS);
-            let name = if independent {
-                "independent"
-            } else {
-                "dependent"
-            };
-            let name = format!("{records} words of 5-{longest} letters, {name}");
-            let mut one = with_targets(&kind, &systems, 2);
-            for (number, (_, targets)) in one.iter_mut().enumerate() {
-                targets.remove(number % 2);
-            }
-            compare(&format!("member, {name}, 1 target"), &one);
-            let thirty = with_targets(&kind, &systems[..SYSTEMS / 10], TARGETS);
-            compare(&format!("member, {name}, 30 targets"), &thirty);
+            compare(&kind);
         }
     }
 }
 
-/// The systems with targets for each.
-fn with_targets(
-    kind: &Measured,
-    systems: &[Vec<u8>],
-    targets: usize,
-) -> Vec<(Vec<u8>, Vec<Vec<u8>>)> {
-    let target_record = |letters: &[u8]| {
-        let mut target = Vec::new();
-        push_record(&mut target, letters);
-        target
-    };
-    systems
+/// Times systems of one kind with one target and with thirty.
+fn compare(kind: &Measured) {
+    let dependence = kind.dependence();
+    let (records, longest) = (kind.records, kind.longest);
+    let name = format!("member, {records} words of 5-{longest} letters, {dependence}");
+    let systems = kind.systems(SYSTEMS);
+    let numbered = systems.iter().enumerate();
+    let one = numbered.map(|(number, system)| inputs(kind, system, 2).swap_remove(1 - number % 2));
+    let one: Vec<[Vec<u8>; 2]> = one.collect();
+    line(
+        &format!("{name}, 1 target"),
+        time(QUICK_MEMBER, &one, LENGTHS),
+    );
+    let systems = &systems[..SYSTEMS / 10];
+    let thirty = systems
         .iter()
-        .map(|system| {
-            let targets = kind.targets(system, targets);
-            let targets = targets.iter().map(|word| target_record(word.letters()));
-            (system.clone(), targets.collect())
-        })
-        .collect()
+        .flat_map(|system| inputs(kind, system, TARGETS));
+    let thirty: Vec<[Vec<u8>; 2]> = thirty.collect();
+    let times = time(QUICK_MEMBER, &thirty, LENGTHS).of_calls(TARGETS);
+    line(&format!("{name}, 30 targets"), times);
 }
 
-/// Times member on systems with their targets, all targets of a system together.
-fn compare(name: &str, inputs: &[(Vec<u8>, Vec<Vec<u8>>)]) {
-    let mut proved_words = [0; RECORD * MOST_RECORDS];
-    let mut rust_words = [0; RECORD * MOST_RECORDS];
-    let mut proved_log = vec![0; LOG];
-    let mut rust_log = vec![0; LOG];
-    let mut proved_product = [0; RECORD];
-    let mut rust_product = [0; RECORD];
-    let mut answer = [0; 7];
-    timing::compare(
-        name,
-        inputs,
-        |(system, targets)| {
-            for target in targets {
-                library::member(
-                    system,
-                    target,
-                    black_box(&mut proved_words),
-                    black_box(&mut proved_log),
-                    black_box(&mut proved_product),
-                    &mut answer,
-                );
-                black_box(&answer);
-            }
-        },
-        |(system, targets)| {
-            for target in targets {
-                let answer = subgroups_reference::member(
-                    system,
-                    target,
-                    black_box(&mut rust_words),
-                    black_box(&mut rust_log),
-                    black_box(&mut rust_product),
-                );
-                black_box(&answer);
-            }
-        },
-    );
+/// A system with each of its first targets.
+fn inputs(kind: &Measured, system: &[u8], targets: usize) -> Vec<[Vec<u8>; 2]> {
+    let targets = kind.targets(system, targets).into_iter();
+    let input = |target: Word| [system.to_vec(), record(target.letters()).to_vec()];
+    targets.map(input).collect()
 }

@@ -1,15 +1,15 @@
 //! Times replay, forward and backward, of the logs that reduce makes and of longer random logs.
 //! Every log is sound and every result fits.
 
-use crate::library;
-use crate::timing;
-use std::hint::black_box;
+use crate::entries::REPLAY;
+use crate::timing::{line, time};
 use subgroups_reference::measured::Measured;
 use subgroups_reference::moves::LOG_RECORD;
-use subgroups_reference::random::{freely_reduced, Kind, Random};
-use subgroups_reference::records::{MOST_RECORDS, RECORD};
+use subgroups_reference::random::{Kind, Random};
+use subgroups_reference::records::{freely_reduced, MOST_RECORDS, RECORD};
+use subgroups_reference::reduction::reduction;
 use subgroups_reference::words::LONGEST;
-use subgroups_reference::{reduce, replay, Direction};
+use subgroups_reference::{replay, Direction};
 
 const SYSTEMS: usize = 64;
 
@@ -33,63 +33,21 @@ pub fn bench() {
 
 /// Times replay of these logs in both directions.
 fn compare(name: &str, runs: &[Run]) {
-    let forward: Vec<(&[u8], &[u8])> = runs
-        .iter()
-        .map(|run| (&run.before[..], &run.log[..]))
-        .collect();
-    one_way(
-        &format!("replay, 16 words, {name}, forward"),
-        &forward,
-        Direction::Forward,
-    );
-    let backward: Vec<(&[u8], &[u8])> = runs
-        .iter()
-        .map(|run| (&run.after[..], &run.log[..]))
-        .collect();
-    one_way(
-        &format!("replay, 16 words, {name}, backward"),
-        &backward,
-        Direction::Backward,
-    );
-}
-
-/// Times replay of pairs of a system and a log in one direction.
-fn one_way(name: &str, pairs: &[(&[u8], &[u8])], direction: Direction) {
-    let mut proved_words = [0; RECORD * MOST_RECORDS];
-    let mut rust_words = [0; RECORD * MOST_RECORDS];
-    let mut answer = [0; 7];
-    let backward = u8::from(direction == Direction::Backward);
-    timing::compare(
-        name,
-        pairs,
-        |(system, log)| {
-            library::replay(
-                system,
-                log,
-                backward,
-                black_box(&mut proved_words),
-                &mut answer,
-            );
-            black_box(&answer);
-        },
-        |(system, log)| {
-            let answer = replay(system, log, direction, black_box(&mut rust_words));
-            black_box(&answer);
-        },
-    );
+    let forward = |run: &Run| [run.before.clone(), run.log.clone(), vec![0]];
+    let backward = |run: &Run| [run.after.clone(), run.log.clone(), vec![1]];
+    let forward: Vec<[Vec<u8>; 3]> = runs.iter().map(forward).collect();
+    let backward: Vec<[Vec<u8>; 3]> = runs.iter().map(backward).collect();
+    for (direction, inputs) in [("forward", forward), ("backward", backward)] {
+        let times = time(REPLAY, &inputs, [RECORD * MOST_RECORDS]);
+        line(&format!("replay, 16 words, {name}, {direction}"), times);
+    }
 }
 
 /// Random systems of 16 words with logs of random moves, those left out that do not fit.
 fn random_runs(random: &mut Random, moves: usize, longest: usize) -> Vec<Run> {
     (0..SYSTEMS)
         .map(|_| {
-            let before = random.system(
-                Kind::Reduced,
-                3,
-                MOST_RECORDS,
-                longest.min(LONGEST) / 2,
-                longest,
-            );
+            let before = random.system(Kind::Reduced, 3, MOST_RECORDS, longest / 2, longest);
             let log = random.log(freely_reduced(&before).words(), moves);
             let mut after = vec![0; before.len()];
             replay(&before, &log, Direction::Forward, &mut after);
@@ -107,12 +65,13 @@ fn reduced_runs() -> Vec<Run> {
         longest: LONGEST,
         independent: false,
     };
-    let reduced = |before: Vec<u8>| {
-        let mut after = vec![0; before.len()];
-        let mut log = vec![0; 1 << 16];
-        let answer = reduce(&before, &mut after, &mut log);
-        log.truncate(LOG_RECORD * answer.moves as usize);
-        Run { before, log, after }
+    let run = |before: Vec<u8>| {
+        let reduction = reduction(&before);
+        Run {
+            before,
+            log: reduction.log,
+            after: reduction.words,
+        }
     };
-    kind.systems(SYSTEMS).into_iter().map(reduced).collect()
+    kind.systems(SYSTEMS).into_iter().map(run).collect()
 }

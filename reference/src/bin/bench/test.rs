@@ -1,57 +1,49 @@
 //! Times test on systems that are reduced, where it must look at everything,
 //! and on systems that are not.
 
-use crate::library;
-use crate::timing;
-use std::hint::black_box;
-use subgroups_reference::measured::{reduction, Measured};
+use crate::entries::{Entry, TEST};
+use crate::timing::{line, time};
+use subgroups_reference::measured::Measured;
+use subgroups_reference::quick_search;
+use subgroups_reference::reduction::reduction;
 use subgroups_reference::words::LONGEST;
 
 const SYSTEMS: usize = 64;
 
+/// Test, by the quick search on the Rust side.
+const QUICK_TEST: Entry<1, 0> = Entry {
+    rust: quick_search::test,
+    ..TEST
+};
+
 /// Times systems of several sizes.
 pub fn bench() {
     for records in [4, 16] {
-        let kind = Measured {
-            generators: 3,
+        let given = |independent| {
+            let kind = Measured {
+                generators: 3,
+                records,
+                shortest: 5,
+                longest: LONGEST,
+                independent,
+            };
+            kind.systems(SYSTEMS)
+        };
+        let reduced =
+            |given: Vec<Vec<u8>>| given.iter().map(|system| reduction(system).words).collect();
+        compare(records, "not reduced", given(false));
+        compare(
             records,
-            shortest: 5,
-            longest: LONGEST,
-            independent: false,
-        };
-        let given = kind.systems(SYSTEMS);
-        let reduced: Vec<Vec<u8>> = given.iter().map(|system| reduction(system).0).collect();
-        compare(&format!("test, {records} words, not reduced"), &given);
-        compare(
-            &format!("test, {records} words, half of them blank, reduced"),
-            &reduced,
+            "half of them blank, reduced",
+            reduced(given(false)),
         );
-        let kind = Measured {
-            independent: true,
-            ..kind
-        };
-        let given = kind.systems(SYSTEMS);
-        let reduced: Vec<Vec<u8>> = given.iter().map(|system| reduction(system).0).collect();
-        compare(
-            &format!("test, {records} words, none blank, reduced"),
-            &reduced,
-        );
+        compare(records, "none blank, reduced", reduced(given(true)));
     }
 }
 
 /// Times test on these systems.
-fn compare(name: &str, systems: &[Vec<u8>]) {
-    let mut answer = [0; 7];
-    timing::compare(
-        name,
-        systems,
-        |system| {
-            library::test(system, &mut answer);
-            black_box(&answer);
-        },
-        |system| {
-            let answer = subgroups_reference::test(system);
-            black_box(&answer);
-        },
-    );
+fn compare(records: usize, name: &str, systems: Vec<Vec<u8>>) {
+    let inputs: Vec<[Vec<u8>; 1]> = systems.into_iter().map(|system| [system]).collect();
+    let times = time(QUICK_TEST, &inputs, []);
+    line(&format!("test, {records} words, {name}"), times);
 }

@@ -1,6 +1,7 @@
-//! Timing of two ways of making the same calls, by turns in one run.
+//! Timing of the two sides of an entry, by turns in one run.
 //! A line of the table gives the time of one call on either side and their ratio.
 
+use crate::entries::{Entry, Numbers};
 use std::hint::black_box;
 use std::time::{Duration, Instant};
 
@@ -11,10 +12,20 @@ const ROUNDS: usize = 61;
 const ROUND: Duration = Duration::from_millis(9);
 
 /// The time of one call on either side, in microseconds.
-#[derive(Clone, Copy, Default)]
+#[derive(Clone, Copy)]
 pub struct Times {
     pub proved: f64,
     pub rust: f64,
+}
+
+impl Times {
+    /// The time of this many calls.
+    pub fn of_calls(self, calls: usize) -> Times {
+        Times {
+            proved: self.proved * calls as f64,
+            rust: self.rust * calls as f64,
+        }
+    }
 }
 
 /// The time that the calls take when they are made for every input, repeatedly.
@@ -28,13 +39,38 @@ fn time_of<T>(inputs: &[T], repetitions: usize, call: &mut impl FnMut(&T)) -> Du
     start.elapsed()
 }
 
-/// Times two ways of making a call for each input and prints a line.
-pub fn compare<T>(
-    name: &str,
-    inputs: &[T],
-    mut proved: impl FnMut(&T),
-    mut rust: impl FnMut(&T),
+/// Times the calls of an entry for each of the inputs, with buffers of these lengths.
+pub fn time<const INPUTS: usize, const BUFFERS: usize>(
+    entry: Entry<INPUTS, BUFFERS>,
+    inputs: &[[Vec<u8>; INPUTS]],
+    lengths: [usize; BUFFERS],
 ) -> Times {
+    let mut proved_buffers = lengths.map(|length| vec![0; length]);
+    let mut rust_buffers = lengths.map(|length| vec![0; length]);
+    let mut answer: Numbers = [0; 7];
+    let proved = |input: &[Vec<u8>; INPUTS]| {
+        let buffers = proved_buffers
+            .each_mut()
+            .map(|bytes| black_box(&mut bytes[..]));
+        (entry.proved)(
+            input.each_ref().map(|bytes| &bytes[..]),
+            buffers,
+            &mut answer,
+        );
+        black_box(&answer);
+    };
+    let rust = |input: &[Vec<u8>; INPUTS]| {
+        let buffers = rust_buffers
+            .each_mut()
+            .map(|bytes| black_box(&mut bytes[..]));
+        let answer = (entry.rust)(input.each_ref().map(|bytes| &bytes[..]), buffers);
+        black_box(&answer);
+    };
+    shortest_times(inputs, proved, rust)
+}
+
+/// The shortest of the times of one call on either side, by turns over many rounds.
+fn shortest_times<T>(inputs: &[T], mut proved: impl FnMut(&T), mut rust: impl FnMut(&T)) -> Times {
     let once = time_of(inputs, 1, &mut proved) + time_of(inputs, 1, &mut rust);
     let repetitions = (ROUND.as_nanos() / once.as_nanos().max(1)).max(1) as usize;
     let calls = (repetitions * inputs.len()) as f64;
@@ -51,7 +87,6 @@ pub fn compare<T>(
             *shortest = shortest.min(time.as_secs_f64() * 1e6 / calls);
         }
     }
-    line(name, times);
     times
 }
 

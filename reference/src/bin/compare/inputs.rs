@@ -4,6 +4,8 @@
 use subgroups_reference::random::{Kind, Random};
 use subgroups_reference::records::{record, system, MOST_RECORDS, RECORD};
 use subgroups_reference::sheets::{SHEETS, TIDY};
+use subgroups_reference::small;
+use subgroups_reference::words::LONGEST;
 
 /// The numbers of generators over which random systems are made.
 pub const GENERATORS: [usize; 5] = [1, 2, 3, 5, 26];
@@ -20,18 +22,22 @@ pub const TELLING_BYTES: [u8; 22] = [
     b'{', 127, 128, 255,
 ];
 
+/// All bytes.
+pub fn every_byte() -> Vec<u8> {
+    (0..=255).collect()
+}
+
+/// This many random bytes.
+pub fn any_bytes(random: &mut Random, length: usize) -> Vec<u8> {
+    (0..length).map(|_| random.byte()).collect()
+}
+
 /// The systems of the worked sheets, and two around a half-end move.
 pub fn sheet_systems() -> Vec<Vec<u8>> {
     let tidy_sheets = TIDY.iter().map(|(_, given, _)| system(&[given]));
     let other_sheets = SHEETS.iter().map(|sheet| system(sheet.given));
     let half_ends = [system(&["ab", "acb"]), system(&["a", "Cab", "bc"])];
     tidy_sheets.chain(other_sheets).chain(half_ends).collect()
-}
-
-/// A system of 16 records with 63 letters each.
-pub fn full_system() -> Vec<u8> {
-    let mut random = Random::new(101);
-    random.system(Kind::Uniform, 5, MOST_RECORDS, RECORD - 1, RECORD - 1)
 }
 
 /// A system of 16 records with words of many lengths.
@@ -45,9 +51,12 @@ pub fn mixed_system() -> Vec<u8> {
     whole
 }
 
-/// A system of 16 blank records.
-pub fn blank_system() -> Vec<u8> {
-    system(&[""; MOST_RECORDS])
+/// Lends the first records of a system with words of many lengths, from none to all 16.
+pub fn for_each_number_of_records(mut lend: impl FnMut(&[u8])) {
+    let mixed = mixed_system();
+    for records in 0..=MOST_RECORDS {
+        lend(&mixed[..RECORD * records]);
+    }
 }
 
 /// Lends the bytes with one after another set to one value after another.
@@ -73,8 +82,7 @@ pub fn for_each_length(mut lend: impl FnMut(&[u8])) {
     let well_formed = system(&["abBc"; 19]);
     for length in 0..=1200 {
         lend(&well_formed[..length]);
-        let any: Vec<u8> = (0..length).map(|_| random.byte()).collect();
-        lend(&any);
+        lend(&any_bytes(&mut random, length));
     }
     let long = well_formed[..RECORD].repeat(LONG_LENGTHS[2] / RECORD + 2);
     for length in LONG_LENGTHS {
@@ -88,7 +96,9 @@ pub fn for_each_length(mut lend: impl FnMut(&[u8])) {
 pub fn for_each_malformed_system(mut lend: impl FnMut(&[u8])) {
     let whole = RECORD * MOST_RECORDS;
     let mixed = mixed_system();
-    for base in [&mixed, &full_system(), &blank_system()] {
+    let full = Random::new(101).system(Kind::Uniform, 5, MOST_RECORDS, LONGEST, LONGEST);
+    let blank = system(&[""; MOST_RECORDS]);
+    for base in [&mixed, &full, &blank] {
         for_each_changed_byte(base, 0..whole, &TELLING_BYTES, &mut lend);
     }
     for length in (RECORD..whole).step_by(RECORD) {
@@ -106,14 +116,60 @@ pub fn for_each_two_faults(lend: impl FnMut(&[u8])) {
     for_each_two_changed_bytes(&base, RECORD..2 * RECORD, &faults, lend);
 }
 
-/// Lends a record of these letters with two bytes changed, to faulty and to sound ones.
-pub fn for_each_two_changed_letters(text: &str, lend: impl FnMut(&[u8])) {
+/// Lends targets or products of every length from 0 to 130 bytes and far longer ones: records of
+/// these letters as far as they go, blank ones, letters alone, and any bytes.
+pub fn for_each_length_of_record(letters: &str, mut lend: impl FnMut(&[u8])) {
+    let mut random = Random::new(104);
+    let long = record(letters).repeat(LONG_LENGTHS[2] / RECORD + 1);
+    for length in 0..=130 {
+        lend(&long[..length]);
+        lend(&record("").repeat(3)[..length]);
+        lend(&vec![b'a'; length]);
+        lend(&any_bytes(&mut random, length));
+    }
+    for length in LONG_LENGTHS {
+        lend(&long[..length]);
+        lend(&long[..length + RECORD]);
+    }
+}
+
+/// Lends targets or products with each byte changed to every other, and with two bytes changed, to
+/// faulty and to sound ones.
+pub fn for_each_damaged_record(letters: &str, mut lend: impl FnMut(&[u8])) {
+    for base in records_of(letters) {
+        for_each_changed_byte(&base, 0..RECORD, &every_byte(), &mut lend);
+    }
     let changes = [(b'a', b'a'), (b'a', b'?'), (b'?', b'z'), (b'z', b'.')];
-    for_each_two_changed_bytes(&record(text), 0..RECORD, &changes, lend);
+    for_each_two_changed_bytes(&record(letters), 0..RECORD, &changes, lend);
+}
+
+/// A blank record, one of these letters, one in which they recur as often as they fit, and a full
+/// one in which they recur.
+pub fn records_of(letters: &str) -> [[u8; RECORD]; 4] {
+    let often = letters.repeat(LONGEST / letters.len());
+    let full: Vec<u8> = letters.bytes().cycle().take(LONGEST).collect();
+    [record(""), record(letters), record(often), record(full)]
+}
+
+/// The record of these letters, then the same too short, too long and broken in several places.
+pub fn sound_and_refused_records(letters: &str) -> Vec<Vec<u8>> {
+    let sound = record(letters);
+    let mut records = vec![
+        sound.to_vec(),
+        sound[..RECORD - 1].to_vec(),
+        [&sound[..], b"\n"].concat(),
+        sound.repeat(2),
+    ];
+    for (place, byte) in [(RECORD - 1, b'.'), (2, b'?'), (9, b'z'), (1, 0)] {
+        let mut damaged = sound.to_vec();
+        damaged[place] = byte;
+        records.push(damaged);
+    }
+    records
 }
 
 /// Lends bytes with two of them changed, at any two of the places and to each pair of values.
-fn for_each_two_changed_bytes(
+pub fn for_each_two_changed_bytes(
     base: &[u8],
     places: std::ops::Range<usize>,
     values: &[(u8, u8)],
@@ -130,6 +186,22 @@ fn for_each_two_changed_bytes(
             changed[two] = base[two];
         }
         changed[one] = base[one];
+    }
+}
+
+/// Lends all systems of one to four short words over one, two and three generators.
+pub fn for_each_small_system(mut lend: impl FnMut(&[u8])) {
+    for (generators, longest, records) in [
+        (1, 8, 1),
+        (1, 12, 2),
+        (1, 6, 3),
+        (2, 4, 2),
+        (2, 2, 3),
+        (2, 1, 4),
+        (3, 2, 2),
+        (3, 1, 4),
+    ] {
+        small::for_each_system(generators, longest, records, &mut lend);
     }
 }
 

@@ -1,6 +1,8 @@
 //! Buffers to be lent: the lent part stands between margins, and all is filled with a pattern
 //! of bytes that no call writes, so that every byte written or left alone is seen.
 
+use crate::entries::Numbers;
+
 /// The length of the margin on either side of the lent part.
 const MARGIN: usize = 64;
 
@@ -8,20 +10,13 @@ const MARGIN: usize = 64;
 const UNWRITTEN: u64 = 0xA5A5_5A5A_C3C3_3C3C;
 
 /// A buffer of which a part in the middle is lent.
+#[derive(Default)]
 pub struct Lent {
     bytes: Vec<u8>,
     length: usize,
 }
 
 impl Lent {
-    /// A buffer from which nothing is lent yet.
-    fn new() -> Lent {
-        Lent {
-            bytes: Vec::new(),
-            length: 0,
-        }
-    }
-
     /// Fills the buffer with the pattern and sets the length of the lent part.
     fn fill(&mut self, length: usize) {
         self.bytes.resize(length + 2 * MARGIN, 0);
@@ -31,29 +26,31 @@ impl Lent {
         self.length = length;
     }
 
-    /// The lent part.
-    pub fn part(&mut self) -> &mut [u8] {
+    /// The lent part, to be written.
+    pub fn part_mut(&mut self) -> &mut [u8] {
         &mut self.bytes[MARGIN..MARGIN + self.length]
     }
 
-    /// The lent part, to be read.
-    pub fn bytes(&self) -> &[u8] {
+    /// The lent part.
+    pub fn part(&self) -> &[u8] {
         &self.bytes[MARGIN..MARGIN + self.length]
     }
 }
 
-/// Two buffers alike: one to be lent to the proved library, one to the Rust version.
+/// Two buffers alike, with their name: one to be lent to the proved library, one to the Rust version.
 pub struct Pair {
+    pub name: &'static str,
     pub proved: Lent,
     pub rust: Lent,
 }
 
 impl Pair {
     /// Two buffers from which nothing is lent yet.
-    pub fn new() -> Pair {
+    pub fn new(name: &'static str) -> Pair {
         Pair {
-            proved: Lent::new(),
-            rust: Lent::new(),
+            name,
+            proved: Lent::default(),
+            rust: Lent::default(),
         }
     }
 
@@ -66,8 +63,8 @@ impl Pair {
     /// Fills both with the pattern and copies an input into their lent parts.
     pub fn copy(&mut self, input: &[u8]) {
         self.fill(input.len());
-        self.proved.part().copy_from_slice(input);
-        self.rust.part().copy_from_slice(input);
+        self.proved.part_mut().copy_from_slice(input);
+        self.rust.part_mut().copy_from_slice(input);
     }
 
     /// The first byte in which the two differ, counted from the lent part's start.
@@ -86,7 +83,7 @@ impl Pair {
 #[repr(C)]
 pub struct LentAnswer {
     before: u64,
-    pub numbers: [u64; 7],
+    pub numbers: Numbers,
     after: u64,
 }
 

@@ -1,193 +1,107 @@
-//! The comparison of multiply: products of every kind and length over systems of every size, sound
-//! and damaged; answers, word buffers with what stands around them, and the inputs.
+//! The inputs on which multiply is compared: products of every kind and length over systems of every
+//! size, sound and damaged.
 
+use crate::comparison::Comparison;
+use crate::entries::MULTIPLY;
 use crate::inputs::*;
-use crate::lent::{LentAnswer, Pair};
-use crate::library;
-use crate::tally::{Call, Tally};
-use subgroups_reference::random::{push_record, Kind, Random};
+use subgroups_reference::random::{Kind, Random};
 use subgroups_reference::records::{record, system, MOST_RECORDS, RECORD};
+use subgroups_reference::refusals::*;
 use subgroups_reference::words::{inverse_letter, Word, LONGEST};
 
-/// The buffers that are lent again and again.
-struct Buffers {
-    system: Pair,
-    product: Pair,
-    word: Pair,
-}
+/// The comparison of multiply: the system and the product; the word buffer.
+type Multiply = Comparison<2, 1>;
 
-impl Buffers {
-    /// Compares one call.
-    fn call(&mut self, tally: &mut Tally, system: &[u8], product: &[u8], word_length: usize) {
-        self.system.copy(system);
-        self.product.copy(product);
-        self.word.fill(word_length);
-        let mut proved = LentAnswer::new();
-        library::multiply(
-            self.system.proved.part(),
-            self.product.proved.part(),
-            self.word.proved.part(),
-            &mut proved.numbers,
-        );
-        let rust = subgroups_reference::multiply(
-            self.system.rust.part(),
-            self.product.rust.part(),
-            self.word.rust.part(),
-        );
-        tally.check(&Call {
-            entry: "multiply",
-            inputs: &[("system", &self.system), ("product", &self.product)],
-            notes: &[],
-            outputs: &[("word buffer", &self.word)],
-            proved: &proved,
-            rust: rust.numbers(),
-        });
-    }
-
-    /// Compares calls with word buffers around the length needed.
-    fn call_with_all_rooms(&mut self, tally: &mut Tally, system: &[u8], product: &[u8]) {
-        for word_length in rooms(RECORD) {
-            self.call(tally, system, product, word_length);
-        }
-    }
-
-    /// Compares a call with a product given as text and just enough room.
-    fn call_text(&mut self, tally: &mut Tally, system: &[u8], product: &str) {
-        self.call(tally, system, &record(product), RECORD);
-    }
-}
-
-/// Compares multiply on all its inputs.
-pub fn compare(tally: &mut Tally) {
-    let buffers = &mut Buffers {
-        system: Pair::new(),
-        product: Pair::new(),
-        word: Pair::new(),
-    };
+/// Compares multiply on all its inputs and gives the number of calls.
+pub fn compare() -> u64 {
+    let inputs = ["system", "product"];
+    let calls = &mut Multiply::new("multiply", MULTIPLY, inputs, ["word buffer"]);
     for system in sheet_systems() {
         for product in ["", "a", "A", "bA", "abcd", "DCBAab"] {
-            buffers.call_with_all_rooms(tally, &system, &record(product));
+            calls.call_with_all_rooms([&system, &record(product)], [RECORD]);
         }
     }
     for_each_length(|system| {
-        buffers.call_text(tally, system, "");
-        buffers.call_text(tally, system, "aBa");
-        buffers.call(tally, system, b"aBa", RECORD - 1);
+        call_text(calls, system, "");
+        call_text(calls, system, "aBa");
+        calls.call([system, b"aBa"], [RECORD - 1]);
     });
-    for_each_malformed_system(|system| buffers.call_text(tally, system, "aBc"));
-    for_each_two_faults(|system| buffers.call_text(tally, system, "acB"));
-    refusals_in_order(tally, buffers);
-    word_buffers(tally, buffers);
-    product_lengths(tally, buffers);
-    damaged_products(tally, buffers);
-    named_slots(tally, buffers);
-    results_of_every_length(tally, buffers);
-    long_rows(tally, buffers);
-    random_products(tally, buffers);
-    tally.end_of_entry("multiply", &[1, 2, 3, 4, 5, 6, 9, 10, 12]);
+    for_each_malformed_system(|system| call_text(calls, system, "aBc"));
+    for_each_two_faults(|system| call_text(calls, system, "acB"));
+    refusals_in_order(calls);
+    let given = system(&["ab", "aaB", &"c".repeat(LONGEST)]);
+    for product in ["", "a", "aBbA", "c", "Cab", "ccC", "cc", "d", "aBc"] {
+        calls.call_with_every_length([&given, &record(product)], [RECORD], 0);
+    }
+    for system in [Vec::new(), system(&["ab", "c"]), mixed_system()] {
+        for_each_length_of_record("aB", |product| {
+            calls.call_with_all_rooms([&system, product], [RECORD]);
+        });
+    }
+    damaged_products(calls);
+    named_slots(calls);
+    results_of_every_length(calls);
+    long_rows(calls);
+    random_products(calls);
+    calls.end(&[
+        TARGET_OR_PRODUCT_MALFORMED,
+        SLOT_MISSING,
+        WORDS_BUFFER_SHORT,
+        WORD_TOO_LONG,
+    ])
+}
+
+/// Compares a call with a product given as text and just enough room.
+fn call_text(calls: &mut Multiply, system: &[u8], product: &str) {
+    calls.call([system, &record(product)], [RECORD]);
 }
 
 /// Faults of the system, the product, the word buffer and the result, two and more at once.
-fn refusals_in_order(tally: &mut Tally, buffers: &mut Buffers) {
-    let mut products: Vec<Vec<u8>> = Vec::new();
+fn refusals_in_order(calls: &mut Multiply) {
+    let mut products = vec![Vec::new()];
     for text in ["", "a", "aCc", "bb", "bbe", "ez", "bbZ", "abB", "Bq"] {
-        let product = record(text);
-        products.push(product.to_vec());
-        products.push(product[..RECORD - 1].to_vec());
-        products.push([&product[..], b"\n"].concat());
-        products.push(product.repeat(2));
-        for (place, byte) in [(RECORD - 1, b'.'), (2, b'?'), (9, b'z'), (1, 0)] {
-            let mut damaged = product;
-            damaged[place] = byte;
-            products.push(damaged.to_vec());
-        }
+        products.extend(sound_and_refused_records(text));
     }
-    products.push(Vec::new());
     for system in sound_and_refused_systems() {
         for product in &products {
-            buffers.call_with_all_rooms(tally, &system, product);
+            calls.call_with_all_rooms([&system, product], [RECORD]);
         }
-    }
-}
-
-/// Every length of the word buffer up to two records and a little more.
-fn word_buffers(tally: &mut Tally, buffers: &mut Buffers) {
-    let given = system(&["ab", "aaB", &"c".repeat(LONGEST)]);
-    for word_length in 0..=2 * RECORD + 3 {
-        for product in ["", "a", "aBbA", "c", "Cab", "ccC", "cc", "d"] {
-            buffers.call(tally, &given, &record(product), word_length);
-        }
-    }
-    for word_length in LONG_LENGTHS {
-        buffers.call(tally, &given, &record("aBc"), word_length);
-    }
-}
-
-/// Every length of a product from 0 to 130 bytes, well formed as far as it goes, and of any bytes.
-fn product_lengths(tally: &mut Tally, buffers: &mut Buffers) {
-    let mut random = Random::new(501);
-    let systems = [Vec::new(), system(&["ab", "c"]), mixed_system()];
-    for length in 0..=130 {
-        let letters = vec![b'a'; length];
-        let blank = record("").repeat(3);
-        let any: Vec<u8> = (0..length).map(|_| random.byte()).collect();
-        for system in &systems {
-            for product in [&record("aB").repeat(3)[..length], &blank[..length]] {
-                buffers.call_with_all_rooms(tally, system, product);
-            }
-            buffers.call_with_all_rooms(tally, system, &letters);
-            buffers.call_with_all_rooms(tally, system, &any);
-        }
-    }
-    let long = record("aB").repeat(LONG_LENGTHS[2] / RECORD + 1);
-    for length in LONG_LENGTHS {
-        buffers.call(tally, &systems[1], &long[..length], RECORD);
-        buffers.call(tally, &systems[1], &long[..length + RECORD], RECORD);
     }
 }
 
 /// Every byte of a product changed to every other, and two faults in one product.
-fn damaged_products(tally: &mut Tally, buffers: &mut Buffers) {
-    let every_byte: Vec<u8> = (0..=255).collect();
+fn damaged_products(calls: &mut Multiply) {
     let given = system(&["ab", "c", "", "bbA", "dA"]);
-    let full: String = "abCdE".repeat(13)[..LONGEST].to_string();
-    for text in ["", "abCDe", &full] {
-        for_each_changed_byte(&record(text), 0..RECORD, &every_byte, |product| {
-            buffers.call(tally, &given, product, RECORD);
-        });
-        for_each_changed_byte(&record(text), 0..RECORD, &TELLING_BYTES, |product| {
-            buffers.call(tally, &[], product, RECORD);
-            buffers.call(tally, &given, product, RECORD - 1);
+    for_each_damaged_record("abCDe", |product| calls.call([&given, product], [RECORD]));
+    for base in records_of("abCDe") {
+        for_each_changed_byte(&base, 0..RECORD, &TELLING_BYTES, |product| {
+            calls.call([&[], product], [RECORD]);
+            calls.call([&given, product], [RECORD - 1]);
         });
     }
-    for_each_two_changed_letters("aBcdE", |product| {
-        buffers.call(tally, &given, product, RECORD);
-    });
 }
 
 /// Every letter and capital named at several places, and two at once, over systems of every size.
-fn named_slots(tally: &mut Tally, buffers: &mut Buffers) {
+fn named_slots(calls: &mut Multiply) {
     let letters: Vec<u8> = (b'a'..=b'z').chain(b'A'..=b'Z').collect();
-    let given = mixed_system();
-    for records in 0..=MOST_RECORDS {
-        let given = &given[..RECORD * records];
+    for_each_number_of_records(|given| {
         for &letter in &letters {
             for place in [0, 1, 30, LONGEST - 1] {
                 let mut product = record(&"aA".repeat(32)[..place]);
                 product[place] = letter;
-                buffers.call(tally, given, &product, RECORD);
+                calls.call([given, &product], [RECORD]);
             }
             for &other in &letters {
                 let text = [b'a', letter, other, b'A'];
                 let text = String::from_utf8_lossy(&text);
-                buffers.call_text(tally, given, &text);
+                call_text(calls, given, &text);
             }
         }
-    }
+    });
 }
 
 /// Products whose results have every length from 0 to 130, with and without cancellation between.
-fn results_of_every_length(tally: &mut Tally, buffers: &mut Buffers) {
+fn results_of_every_length(calls: &mut Multiply) {
     let mut random = Random::new(502);
     for length in 0..=130 {
         for _ in 0..40 {
@@ -203,37 +117,35 @@ fn results_of_every_length(tally: &mut Tally, buffers: &mut Buffers) {
                     continue;
                 };
                 let between = random.below(room + 1);
-                let between = Word::freely_reduced(&random.reduced_letters(3, between));
+                let between = random.reduced_letters(3, between);
                 let slot = b'a' + (given.len() / RECORD) as u8;
+                let row = [part, &between].concat();
                 if random.below(2) == 0 {
-                    push_record(&mut given, &[part, between.letters()].concat());
+                    given.extend(record(row));
                     product.push(slot);
                 } else {
-                    let word = Word::freely_reduced(&[part, between.letters()].concat());
-                    push_record(&mut given, word.inverse().letters());
+                    given.extend(record(Word::freely_reduced(&row).inverse().letters()));
                     product.push(inverse_letter(slot));
                 }
-                push_record(&mut given, between.letters());
+                given.extend(record(between));
                 product.push(inverse_letter(slot + 1));
             }
-            let mut bytes = Vec::new();
-            push_record(&mut bytes, &product);
-            buffers.call(tally, &given, &bytes, RECORD);
+            calls.call([&given, &record(product)], [RECORD]);
         }
     }
 }
 
 /// Rows whose beginning is far longer than 63 letters, most of which cancels in the end.
-fn long_rows(tally: &mut Tally, buffers: &mut Buffers) {
+fn long_rows(calls: &mut Multiply) {
     let full = "abc".repeat(21);
     let given = system(&[&full, "c", &"A".repeat(LONGEST), "a", &full[1..], ""]);
     for there in 0..=LONGEST {
         for back in 0..=LONGEST - there {
             for (letter, capital) in [("a", "A"), ("c", "C"), ("ae", "EA"), ("f", "c")] {
                 let row = letter.repeat(there) + &capital.repeat(back) + "b";
-                buffers.call_text(tally, &given, &row[..row.len().min(LONGEST)]);
+                call_text(calls, &given, &row[..row.len().min(LONGEST)]);
                 let row = "D".repeat(5) + &letter.repeat(there) + &capital.repeat(back);
-                buffers.call_text(tally, &given, &row[..row.len().min(LONGEST)]);
+                call_text(calls, &given, &row[..row.len().min(LONGEST)]);
             }
         }
     }
@@ -242,8 +154,7 @@ fn long_rows(tally: &mut Tally, buffers: &mut Buffers) {
         let root = random.reduced_letters(2, 3);
         let mut given = Vec::new();
         for _ in 0..8 {
-            let power = root.repeat(random.between(1, 21));
-            push_record(&mut given, &power);
+            given.extend(record(root.repeat(random.between(1, 21))));
         }
         let balance: Vec<u8> = (0..LONGEST)
             .map(|place| match place < LONGEST / 2 {
@@ -251,18 +162,14 @@ fn long_rows(tally: &mut Tally, buffers: &mut Buffers) {
                 false => b'A' + random.below(8) as u8,
             })
             .collect();
-        let mut product = Vec::new();
         let letters = random.between(2, LONGEST / 2);
-        push_record(
-            &mut product,
-            &balance[LONGEST / 2 - letters..LONGEST / 2 + letters],
-        );
-        buffers.call(tally, &given, &product, RECORD);
+        let product = record(&balance[LONGEST / 2 - letters..LONGEST / 2 + letters]);
+        calls.call([&given, &product], [RECORD]);
     }
 }
 
 /// Random systems with random products, letters beside their capitals among them, and damaged ones.
-fn random_products(tally: &mut Tally, buffers: &mut Buffers) {
+fn random_products(calls: &mut Multiply) {
     let mut random = Random::new(504);
     for generators in GENERATORS {
         for round in 0..30_000 {
@@ -275,15 +182,14 @@ fn random_products(tally: &mut Tally, buffers: &mut Buffers) {
             let most = [3, 10, LONGEST][random.below(3)];
             let letters = random.between(0, most);
             let kind = Kind::ALL[random.below(Kind::ALL.len())];
-            let mut product = Vec::new();
-            push_record(&mut product, &random.letters(kind, slots, letters));
-            let word_length = any_room(&mut random, RECORD);
-            buffers.call(tally, &given, &product, word_length);
+            let mut product = record(random.letters(kind, slots, letters));
+            let room = any_room(&mut random, RECORD);
+            calls.call([&given, &product], [room]);
             if round % 8 == 0 {
                 damage(&mut random, &mut product);
-                buffers.call(tally, &given, &product, word_length);
+                calls.call([&given, &product], [room]);
                 damage(&mut random, &mut given);
-                buffers.call(tally, &given, &product, word_length);
+                calls.call([&given, &product], [room]);
             }
         }
     }

@@ -1,136 +1,86 @@
-//! The comparison of replay: logs of every length, sound, damaged and too long in their results,
-//! run forward and backward; answers, words buffers with what stands around them, and the inputs.
+//! The inputs on which replay is compared: logs of every length, sound, damaged and too long in their
+//! results, run forward and backward.
 
+use crate::comparison::Comparison;
+use crate::entries::REPLAY;
 use crate::inputs::*;
-use crate::lent::{LentAnswer, Pair};
-use crate::library;
-use crate::tally::{Call, Tally};
 use subgroups_reference::moves::{Form, Move, LOG_RECORD};
-use subgroups_reference::random::{freely_reduced, push_record, Random};
-use subgroups_reference::records::{system, MOST_RECORDS, RECORD};
-use subgroups_reference::words::{inverse_letter, Word, LONGEST};
-use subgroups_reference::{reduce, Direction};
+use subgroups_reference::random::Random;
+use subgroups_reference::records::{freely_reduced, record, system, MOST_RECORDS, RECORD};
+use subgroups_reference::reduction::reduction;
+use subgroups_reference::refusals::*;
+use subgroups_reference::words::{inverse_letters, Word, LONGEST};
+use subgroups_reference::Answer;
 
-/// The bytes by which forward and backward are asked for.
-const FLAGS: [u8; 4] = [0, 1, 2, 255];
+/// The comparison of replay: the system, the log and the direction; the words buffer.
+type Replay = Comparison<3, 1>;
 
-/// The buffers that are lent again and again.
-struct Buffers {
-    system: Pair,
-    log: Pair,
-    words: Pair,
-}
+/// The byte that asks for forward.
+const FORWARD: &[u8] = &[0];
+/// A byte that asks for backward.
+const BACKWARD: &[u8] = &[1];
+/// Bytes that ask for both directions, backward by several.
+const FLAGS: [&[u8]; 4] = [FORWARD, BACKWARD, &[2], &[255]];
 
-impl Buffers {
-    /// Compares one call.
-    fn call(
-        &mut self,
-        tally: &mut Tally,
-        system: &[u8],
-        log: &[u8],
-        backward: u8,
-        words_length: usize,
-    ) {
-        self.system.copy(system);
-        self.log.copy(log);
-        self.words.fill(words_length);
-        let mut proved = LentAnswer::new();
-        library::replay(
-            self.system.proved.part(),
-            self.log.proved.part(),
-            backward,
-            self.words.proved.part(),
-            &mut proved.numbers,
-        );
-        let direction = match backward {
-            0 => Direction::Forward,
-            _ => Direction::Backward,
-        };
-        let rust = subgroups_reference::replay(
-            self.system.rust.part(),
-            self.log.rust.part(),
-            direction,
-            self.words.rust.part(),
-        );
-        tally.check(&Call {
-            entry: "replay",
-            inputs: &[("system", &self.system), ("log", &self.log)],
-            notes: &[("backward", usize::from(backward))],
-            outputs: &[("words buffer", &self.words)],
-            proved: &proved,
-            rust: rust.numbers(),
-        });
+/// Compares replay on all its inputs and gives the number of calls.
+pub fn compare() -> u64 {
+    let inputs = ["system", "log", "backward"];
+    let calls = &mut Replay::new("replay", REPLAY, inputs, ["words buffer"]);
+    for given in sheet_systems() {
+        let reduction = reduction(&given);
+        call_with_all_rooms(calls, &given, &reduction.log);
+        call_with_all_rooms(calls, &reduction.words, &reduction.log);
     }
-
-    /// Compares calls forward and backward, with room for all words.
-    fn call_both_ways(&mut self, tally: &mut Tally, system: &[u8], log: &[u8]) {
-        for backward in [0, 1] {
-            self.call(tally, system, log, backward, system.len());
-        }
-    }
-
-    /// Compares calls with every byte for the direction and words buffers around the length needed.
-    fn call_with_all_rooms(&mut self, tally: &mut Tally, system: &[u8], log: &[u8]) {
-        for backward in FLAGS {
-            for words_length in rooms(system.len()) {
-                self.call(tally, system, log, backward, words_length);
-            }
-        }
-    }
-}
-
-/// Compares replay on all its inputs.
-pub fn compare(tally: &mut Tally) {
-    let buffers = &mut Buffers {
-        system: Pair::new(),
-        log: Pair::new(),
-        words: Pair::new(),
-    };
-    sheets(tally, buffers);
     for_each_length(|system| {
         for log in [&b""[..], b"a1b\n", b"a1b"] {
-            buffers.call_both_ways(tally, system, log);
+            call_both_ways(calls, system, log);
         }
     });
     let mut random = Random::new(401);
     for_each_malformed_system(|system| {
         let backward = FLAGS[random.below(FLAGS.len())];
-        buffers.call(tally, system, b"a3b\nb2c\n", backward, system.len());
+        calls.call([system, b"a3b\nb2c\n", backward], [system.len()]);
     });
-    for_each_two_faults(|system| buffers.call_both_ways(tally, system, b"a3b\n"));
-    refusals_in_order(tally, buffers);
-    words_buffers(tally, buffers);
-    directions(tally, buffers);
-    log_lengths(tally, buffers);
-    damaged_records(tally, buffers);
-    slots_and_digits(tally, buffers);
-    short_logs(tally, buffers);
-    results_of_telling_lengths(tally, buffers);
-    long_logs(tally, buffers);
-    random_logs(tally, buffers);
-    tally.end_of_entry("replay", &[1, 2, 3, 4, 5, 7, 8, 10, 12]);
+    for_each_two_faults(|system| call_both_ways(calls, system, b"a3b\n"));
+    refusals_in_order(calls);
+    let mut random = Random::new(402);
+    for_each_number_of_records(|system| {
+        let log = random.log(freely_reduced(system).words(), 20);
+        calls.call_with_every_length([system, &log, FORWARD], [system.len()], 0);
+        calls.call_with_every_length([system, b"", BACKWARD], [system.len()], 0);
+    });
+    directions(calls);
+    log_lengths(calls);
+    damaged_records(calls);
+    slots_and_digits(calls);
+    short_logs(calls);
+    results_of_telling_lengths(calls);
+    long_logs(calls);
+    random_logs(calls);
+    calls.end(&[
+        LOG_UNEVEN,
+        LOG_RECORD_MALFORMED,
+        WORDS_BUFFER_SHORT,
+        WORD_TOO_LONG,
+    ])
 }
 
-/// A system after reduce, with the log of its moves.
-fn reduced(system: &[u8]) -> (Vec<u8>, Vec<u8>) {
-    let mut words = vec![0; system.len()];
-    let mut log = vec![0; 1 << 16];
-    let answer = reduce(system, &mut words, &mut log);
-    log.truncate(LOG_RECORD * answer.moves as usize);
-    (words, log)
+/// Compares calls forward and backward, with room for all words.
+fn call_both_ways(calls: &mut Replay, system: &[u8], log: &[u8]) {
+    for backward in [FORWARD, BACKWARD] {
+        calls.call([system, log, backward], [system.len()]);
+    }
 }
 
-/// The logs of the worked sheets, from both ends and both ways.
-fn sheets(tally: &mut Tally, buffers: &mut Buffers) {
-    for given in sheet_systems() {
-        let (words, log) = reduced(&given);
-        buffers.call_with_all_rooms(tally, &given, &log);
-        buffers.call_with_all_rooms(tally, &words, &log);
+/// Compares calls with several bytes for the direction and words buffers around the length needed.
+fn call_with_all_rooms(calls: &mut Replay, system: &[u8], log: &[u8]) {
+    for backward in FLAGS {
+        calls.call_with_all_rooms([system, log, backward], [system.len()]);
     }
 }
 
 /// Faults of the system, the log, the words buffer and the results, two and more at once.
-fn refusals_in_order(tally: &mut Tally, buffers: &mut Buffers) {
+fn refusals_in_order(calls: &mut Replay) {
     let logs = [
         "",
         "a1c\n",
@@ -152,41 +102,23 @@ fn refusals_in_order(tally: &mut Tally, buffers: &mut Buffers) {
     ];
     for system in sound_and_refused_systems() {
         for log in logs {
-            buffers.call_with_all_rooms(tally, &system, log.as_bytes());
-        }
-    }
-}
-
-/// Every length of the words buffer, for every number of records.
-fn words_buffers(tally: &mut Tally, buffers: &mut Buffers) {
-    let mixed = mixed_system();
-    let mut random = Random::new(402);
-    for records in 0..=MOST_RECORDS {
-        let exact = RECORD * records;
-        let words = freely_reduced(&mixed[..exact]);
-        let log = random.log(words.words(), 20);
-        for words_length in 0..=exact + RECORD + 1 {
-            buffers.call(tally, &mixed[..exact], &log, 0, words_length);
-            buffers.call(tally, &mixed[..exact], b"", 1, words_length);
-        }
-        for words_length in LONG_LENGTHS {
-            buffers.call(tally, &mixed[..exact], &log, 0, words_length);
+            call_with_all_rooms(calls, &system, log.as_bytes());
         }
     }
 }
 
 /// Every byte that can ask for a direction.
-fn directions(tally: &mut Tally, buffers: &mut Buffers) {
+fn directions(calls: &mut Replay) {
     let given = system(&["ab", "c", "aaB"]);
     for backward in 0..=255 {
         for log in ["a1b\nb3c\nc2a\n", "b4a\n", ""] {
-            buffers.call(tally, &given, log.as_bytes(), backward, given.len());
+            calls.call([&given, log.as_bytes(), &[backward]], [given.len()]);
         }
     }
 }
 
 /// Every length of a log from 0 to 84, sound as far as it goes, and of any bytes.
-fn log_lengths(tally: &mut Tally, buffers: &mut Buffers) {
+fn log_lengths(calls: &mut Replay) {
     let mut random = Random::new(403);
     let mixed = mixed_system();
     for records in [0, 1, 2, 3, 8, MOST_RECORDS] {
@@ -195,11 +127,10 @@ fn log_lengths(tally: &mut Tally, buffers: &mut Buffers) {
         let mut sound = random.log(words.words(), 400);
         sound.extend(b"b3a\na1b\n".repeat(11));
         for length in 0..=84 {
-            let any: Vec<u8> = (0..length).map(|_| random.byte()).collect();
-            for log in [&sound[..length], &any] {
-                for backward in [0, 1] {
-                    buffers.call(tally, given, log, backward, given.len());
-                    buffers.call(tally, given, log, backward, given.len().saturating_sub(1));
+            for log in [&sound[..length], &any_bytes(&mut random, length)] {
+                for backward in [FORWARD, BACKWARD] {
+                    calls.call([given, log, backward], [given.len()]);
+                    calls.call([given, log, backward], [given.len().saturating_sub(1)]);
                 }
             }
         }
@@ -207,28 +138,22 @@ fn log_lengths(tally: &mut Tally, buffers: &mut Buffers) {
 }
 
 /// Every byte of a log changed to every other, and two damaged log records at once.
-fn damaged_records(tally: &mut Tally, buffers: &mut Buffers) {
-    let every_byte: Vec<u8> = (0..=255).collect();
+fn damaged_records(calls: &mut Replay) {
     let log = b"a1b\nb2a\nb3a\na4b\nb1a\na2b\n";
     let given = system(&["ab", "c", "", "bbA", "dA"]);
     for records in [0, 1, 2, 5] {
         let given = &given[..RECORD * records];
-        for_each_changed_byte(log, 0..log.len(), &every_byte, |log| {
-            buffers.call_both_ways(tally, given, log);
+        for_each_changed_byte(log, 0..log.len(), &every_byte(), |log| {
+            call_both_ways(calls, given, log);
         });
     }
-    for one in 0..log.len() {
-        for two in one + 1..log.len() {
-            let mut changed = log.to_vec();
-            changed[one] = b'?';
-            changed[two] = b'.';
-            buffers.call_both_ways(tally, &given, &changed);
-        }
-    }
+    for_each_two_changed_bytes(log, 0..log.len(), &[(b'?', b'.')], |log| {
+        call_both_ways(calls, &given, log);
+    });
 }
 
 /// Every pair of slot letters around a to p with every digit around 1 to 4, for every system size.
-fn slots_and_digits(tally: &mut Tally, buffers: &mut Buffers) {
+fn slots_and_digits(calls: &mut Replay) {
     let given = system(&["ab"; MOST_RECORDS]);
     let slots: Vec<u8> = (b'`'..=b'r').chain(*b"ABPZz1\n").collect();
     for records in 0..=MOST_RECORDS {
@@ -239,7 +164,7 @@ fn slots_and_digits(tally: &mut Tally, buffers: &mut Buffers) {
                 for digit in b'/'..=b'6' {
                     log[..LOG_RECORD].copy_from_slice(&[changed, digit, other, b'\n']);
                     let length = LOG_RECORD * (1 + usize::from(digit % 2));
-                    buffers.call(tally, given, &log[..length], digit & 2, given.len());
+                    calls.call([given, &log[..length], &[digit & 2]], [given.len()]);
                 }
             }
         }
@@ -247,7 +172,7 @@ fn slots_and_digits(tally: &mut Tally, buffers: &mut Buffers) {
 }
 
 /// All logs of at most two moves over small systems with blank slots and with words of 63 letters.
-fn short_logs(tally: &mut Tally, buffers: &mut Buffers) {
+fn short_logs(calls: &mut Replay) {
     let long = "ab".repeat(31) + "c";
     let systems = [
         system(&["abc", "", "aA", "ab"]),
@@ -272,7 +197,7 @@ fn short_logs(tally: &mut Tally, buffers: &mut Buffers) {
         for first in &moves {
             for second in &moves {
                 let log = [&first[..], second].concat();
-                buffers.call_both_ways(tally, given, &log);
+                call_both_ways(calls, given, &log);
             }
         }
     }
@@ -289,9 +214,8 @@ fn factors(random: &mut Random, letters: usize, cancelled: usize) -> Option<(Wor
         let product = random.reduced_letters(3, letters);
         let middle = random.reduced_letters(3, cancelled);
         let (left, right) = product.split_at(random.between(fewest, most));
-        let inverse: Vec<u8> = middle.iter().rev().map(|&l| inverse_letter(l)).collect();
         let left_letters = [left, &middle].concat();
-        let right_letters = [&inverse, right].concat();
+        let right_letters = [&inverse_letters(&middle), right].concat();
         let left = Word::freely_reduced(&left_letters);
         let right = Word::freely_reduced(&right_letters);
         if left.len() == left_letters.len() && right.len() == right_letters.len() {
@@ -325,7 +249,7 @@ fn logs_with(form: Form) -> Vec<Vec<u8>> {
 }
 
 /// Moves whose results have about 63 letters, at each place of a log, in each form and direction.
-fn results_of_telling_lengths(tally: &mut Tally, buffers: &mut Buffers) {
+fn results_of_telling_lengths(calls: &mut Replay) {
     let mut random = Random::new(404);
     for form in Form::ALL {
         for letters in [0, 1, 40, 61, 62, 63, 64, 65, 66, 100, 125, 126] {
@@ -339,16 +263,14 @@ fn results_of_telling_lengths(tally: &mut Tally, buffers: &mut Buffers) {
                     Form::WordAfter => (left, right),
                     Form::InverseAfter => (left, right.inverse()),
                 };
-                let mut given = Vec::new();
-                for letters in [changed.letters(), other.letters(), b"x", b"y"] {
-                    push_record(&mut given, letters);
-                }
+                let words = [changed.letters(), other.letters(), b"x", b"y"];
+                let given = words.map(record).concat();
                 for log in logs_with(form) {
-                    buffers.call(tally, &given, &log, 0, given.len());
+                    calls.call([&given, &log, FORWARD], [given.len()]);
                 }
                 for log in logs_with(form.undoing()) {
-                    for backward in [1, 2, 255] {
-                        buffers.call(tally, &given, &log, backward, given.len());
+                    for backward in &FLAGS[1..] {
+                        calls.call([&given, &log, backward], [given.len()]);
                     }
                 }
             }
@@ -357,12 +279,12 @@ fn results_of_telling_lengths(tally: &mut Tally, buffers: &mut Buffers) {
 }
 
 /// Logs of many moves, the last or first of which may lead to a word that is too long.
-fn long_logs(tally: &mut Tally, buffers: &mut Buffers) {
+fn long_logs(calls: &mut Replay) {
     let given = system(&["a", "bc", &"ab".repeat(31)]);
     let there_and_back = b"a1b\na2b\n".repeat(LONG_LENGTHS[2] / (2 * LOG_RECORD) + 1);
     for length in LONG_LENGTHS {
         for more in [0, 1, LOG_RECORD] {
-            buffers.call_both_ways(tally, &given, &there_and_back[..length + more]);
+            call_both_ways(calls, &given, &there_and_back[..length + more]);
         }
     }
     let there_and_back = &there_and_back[..LONG_LENGTHS[1]];
@@ -373,7 +295,7 @@ fn long_logs(tally: &mut Tally, buffers: &mut Buffers) {
         [there_and_back, b"c3?\n"].concat(),
         [there_and_back, b"c"].concat(),
     ] {
-        buffers.call_both_ways(tally, &given, &log);
+        call_both_ways(calls, &given, &log);
     }
 }
 
@@ -386,13 +308,13 @@ fn any_log(random: &mut Random, given: &[u8]) -> Vec<u8> {
         0 if words.count() > 1 => (0..moves)
             .flat_map(|_| random.any_move(words.count()).record())
             .collect(),
-        1 => reduced(given).1,
+        1 => reduction(given).log,
         _ => random.log(words.words(), moves),
     }
 }
 
 /// Random systems with logs that fit, logs that may not, and damaged ones, both ways.
-fn random_logs(tally: &mut Tally, buffers: &mut Buffers) {
+fn random_logs(calls: &mut Replay) {
     let mut random = Random::new(405);
     for generators in GENERATORS {
         for round in 0..12_000 {
@@ -401,18 +323,17 @@ fn random_logs(tally: &mut Tally, buffers: &mut Buffers) {
                 _ => random_system(&mut random, generators),
             };
             let mut log = any_log(&mut random, &given);
-            let words_length = any_room(&mut random, given.len());
-            for backward in [0, 1] {
-                buffers.call(tally, &given, &log, backward, words_length);
-                let after = buffers.words.rust.bytes().get(..given.len());
-                if let Some(after) = after.filter(|after| after.is_ascii()) {
-                    let after = after.to_vec();
-                    buffers.call_both_ways(tally, &after, &log);
+            let room = any_room(&mut random, given.len());
+            for backward in [FORWARD, BACKWARD] {
+                calls.call([&given, &log, backward], [room]);
+                if calls.answer() == Answer::done() {
+                    let after = calls.left_in(0)[..given.len()].to_vec();
+                    call_both_ways(calls, &after, &log);
                 }
             }
             if !log.is_empty() {
                 damage(&mut random, &mut log);
-                buffers.call_both_ways(tally, &given, &log);
+                call_both_ways(calls, &given, &log);
             }
         }
     }

@@ -1,89 +1,41 @@
-//! The comparison of test: systems that are reduced, that just fail to be, and all others.
-//! The answers are compared, and that the system is left alone.
+//! The inputs on which test is compared: systems that are reduced, that just fail to be, and all
+//! others.
 
+use crate::comparison::Comparison;
+use crate::entries::TEST;
 use crate::inputs::*;
-use crate::lent::{LentAnswer, Pair};
-use crate::library;
-use crate::tally::{Call, Tally};
-use subgroups_reference::random::{push_record, Random};
-use subgroups_reference::records::{record, system, RECORD};
-use subgroups_reference::reduce;
+use subgroups_reference::random::Random;
+use subgroups_reference::records::{freely_reduced, record, system, RECORD};
+use subgroups_reference::reduction::reduction;
 use subgroups_reference::small;
 use subgroups_reference::words::Word;
 
-/// The buffer that is lent again and again, with the count of the systems that are reduced.
-struct Buffers {
-    system: Pair,
-    reduced: u64,
-}
+/// The comparison of test: the system; no buffer.
+type Test = Comparison<1, 0>;
 
-impl Buffers {
-    /// Compares one call.
-    fn call(&mut self, tally: &mut Tally, system: &[u8]) {
-        self.system.copy(system);
-        let mut proved = LentAnswer::new();
-        library::test(self.system.proved.part(), &mut proved.numbers);
-        let rust = subgroups_reference::test(self.system.rust.part());
-        self.reduced += rust.reduced;
-        tally.check(&Call {
-            entry: "test",
-            inputs: &[("system", &self.system)],
-            notes: &[],
-            outputs: &[],
-            proved: &proved,
-            rust: rust.numbers(),
-        });
-    }
-}
-
-/// Compares test on all its inputs.
-pub fn compare(tally: &mut Tally) {
-    let buffers = &mut Buffers {
-        system: Pair::new(),
-        reduced: 0,
-    };
+/// Compares test on all its inputs and gives the number of calls.
+pub fn compare() -> u64 {
+    let calls = &mut Test::new("test", TEST, ["system"], []);
     for system in sheet_systems() {
-        buffers.call(tally, &system);
-        buffers.call(tally, &reduced(&system));
+        calls.call([&system], []);
+        calls.call([&reduction(&system).words], []);
     }
-    for_each_length(|system| buffers.call(tally, system));
-    for_each_malformed_system(|system| buffers.call(tally, system));
-    for_each_two_faults(|system| buffers.call(tally, system));
+    for_each_length(|system| calls.call([system], []));
+    for_each_malformed_system(|system| calls.call([system], []));
+    for_each_two_faults(|system| calls.call([system], []));
     for system in sound_and_refused_systems() {
-        buffers.call(tally, &system);
+        calls.call([&system], []);
     }
-    small_systems(tally, buffers);
-    telling_systems(tally, buffers);
-    long_halves(tally, buffers);
-    random_systems(tally, buffers);
-    assert!(buffers.reduced > 10_000, "too few systems are reduced");
-    tally.end_of_entry("test", &[1, 2, 3, 4, 5]);
-}
-
-/// A system after reduce.
-fn reduced(system: &[u8]) -> Vec<u8> {
-    let mut words = vec![0; system.len()];
-    reduce(system, &mut words, &mut vec![0; 1 << 16]);
-    words
-}
-
-/// All systems of one, two and three short words over one, two and three generators.
-fn small_systems(tally: &mut Tally, buffers: &mut Buffers) {
-    for (generators, longest, records) in [
-        (1, 8, 1),
-        (1, 8, 2),
-        (1, 4, 3),
-        (2, 4, 2),
-        (2, 2, 3),
-        (3, 2, 2),
-    ] {
-        let words = small::words(generators, longest);
-        small::for_each_system(&words, records, |system| buffers.call(tally, system));
-    }
+    for_each_small_system(|system| calls.call([system], []));
+    telling_systems(calls);
+    long_halves(calls);
+    random_systems(calls);
+    assert!(calls.seen.reduced > 10_000, "too few systems are reduced");
+    calls.end(&[])
 }
 
 /// Systems at the edge of being reduced: squares, shared halves, inverses, repeats and blanks.
-fn telling_systems(tally: &mut Tally, buffers: &mut Buffers) {
+fn telling_systems(calls: &mut Test) {
     let systems: [&[&str]; 24] = [
         &["abab"],
         &["abab", "ab"],
@@ -112,95 +64,84 @@ fn telling_systems(tally: &mut Tally, buffers: &mut Buffers) {
     ];
     for texts in systems {
         let given = system(texts);
-        buffers.call(tally, &given);
+        calls.call([&given], []);
         let swapped: Vec<u8> = given.rchunks(RECORD).flatten().copied().collect();
-        buffers.call(tally, &swapped);
-        let mut longer = record("").to_vec();
-        longer.extend_from_slice(&given);
-        longer.extend_from_slice(&record("z"));
-        buffers.call(tally, &longer);
-        for place in 0..given.len() {
-            for letter in small::letters(4) {
-                let mut changed = given.clone();
-                changed[place] = letter;
-                buffers.call(tally, &changed);
-            }
-        }
+        calls.call([&swapped], []);
+        let longer = [&record("")[..], &given, &record("z")].concat();
+        calls.call([&longer], []);
+        for_each_changed_byte(&given, 0..given.len(), &small::letters(4), |changed| {
+            calls.call([changed], []);
+        });
     }
 }
 
 /// Words of every length up to 63 whose beginnings and ends other words share to about a half.
-fn long_halves(tally: &mut Tally, buffers: &mut Buffers) {
+fn long_halves(calls: &mut Test) {
     let mut random = Random::new(601);
     for length in 1..RECORD {
-        for beginning in (length / 2).saturating_sub(1)..=(length / 2 + 1).min(length) {
-            for end in (length / 2).saturating_sub(1)..=(length / 2 + 1).min(length) {
+        let about_half = (length / 2).saturating_sub(1)..=(length / 2 + 1).min(length);
+        for beginning in about_half.clone() {
+            for end in about_half.clone() {
                 for other_length in [length - 1, length, (length + 1).min(RECORD - 1), RECORD - 1] {
-                    let word = Word::freely_reduced(&random.reduced_letters(3, length));
-                    let shares_beginning = &word.letters()[..beginning];
-                    let shares_end = &word.letters()[length - end..];
+                    let word = random.reduced_letters(3, length);
                     let fill = random.reduced_letters(3, RECORD);
-                    let first = [shares_beginning, &fill].concat();
-                    let second = [&fill, shares_end].concat();
-                    let first = Word::freely_reduced(&first[..other_length]);
+                    let first = [&word[..beginning], &fill].concat();
+                    let second = [&fill, &word[length - end..]].concat();
                     let start = second.len() - other_length;
-                    let second = Word::freely_reduced(&second[start..]);
-                    for turned in 0..8 {
-                        let mut given = Vec::new();
-                        for (bit, word) in [word, first, second].iter().enumerate() {
-                            let inverse = word.inverse();
-                            let turn = turned >> bit & 1 == 1;
-                            let word = if turn { &inverse } else { word };
-                            push_record(&mut given, word.letters());
-                        }
-                        buffers.call(tally, &given);
-                        buffers.call(tally, &given[..2 * RECORD]);
-                        buffers.call(tally, &given[RECORD..]);
-                    }
+                    let words = [&word, &first[..other_length], &second[start..]];
+                    turned_words(calls, words.map(Word::freely_reduced));
                 }
             }
         }
     }
 }
 
+/// Three words and their inverses in every mixture, and the first two and the last two of them.
+fn turned_words(calls: &mut Test, words: [Word; 3]) {
+    for turned in 0..8 {
+        let mut given = Vec::new();
+        for (bit, word) in words.iter().enumerate() {
+            let turn = turned >> bit & 1 == 1;
+            let word = if turn { word.inverse() } else { *word };
+            given.extend(record(word.letters()));
+        }
+        calls.call([&given], []);
+        calls.call([&given[..2 * RECORD]], []);
+        calls.call([&given[RECORD..]], []);
+    }
+}
+
 /// Random systems, what reduce makes of them, and that with one word changed.
-fn random_systems(tally: &mut Tally, buffers: &mut Buffers) {
+fn random_systems(calls: &mut Test) {
     let mut random = Random::new(602);
     for generators in GENERATORS {
         for round in 0..5_000 {
             let mut given = random.system_to_reduce(generators);
-            buffers.call(tally, &given);
-            let words = reduced(&given);
-            buffers.call(tally, &words);
-            changed_systems(tally, buffers, &mut random, &words, generators);
+            calls.call([&given], []);
+            let words = reduction(&given).words;
+            calls.call([&words], []);
+            changed_systems(calls, &mut random, &words, generators);
             if round % 8 == 0 {
                 damage(&mut random, &mut given);
-                buffers.call(tally, &given);
+                calls.call([&given], []);
             }
         }
     }
 }
 
 /// A reduced system with a letter changed, a word replaced by a product, an inverse or a part.
-fn changed_systems(
-    tally: &mut Tally,
-    buffers: &mut Buffers,
-    random: &mut Random,
-    words: &[u8],
-    generators: usize,
-) {
-    let freely_reduced = subgroups_reference::random::freely_reduced(words);
-    let records = freely_reduced.count();
-    if records == 0 {
+fn changed_systems(calls: &mut Test, random: &mut Random, words: &[u8], generators: usize) {
+    let reduced = freely_reduced(words);
+    if words.is_empty() {
         return;
     }
-    let slot = random.below(records);
-    let word = freely_reduced.words()[slot];
-    let other = freely_reduced.words()[random.below(records)];
+    let slot = random.below(reduced.count());
+    let word = reduced.words()[slot];
+    let other = reduced.words()[random.below(reduced.count())];
     let half = &word.letters()[..word.len() / 2];
     let replacements = [
         random.one_letter_changed(&word, generators),
-        random.product(freely_reduced.words(), 2),
+        random.product(reduced.words(), 2),
         word.inverse(),
         other,
         other.inverse(),
@@ -208,12 +149,9 @@ fn changed_systems(
         Word::freely_reduced(half),
     ];
     for replacement in replacements {
-        let mut changed = words[..RECORD * slot].to_vec();
-        push_record(
-            &mut changed,
-            &random.unreduced(replacement.letters(), generators),
-        );
-        changed.extend_from_slice(&words[RECORD * (slot + 1)..]);
-        buffers.call(tally, &changed);
+        let mut changed = words.to_vec();
+        let letters = random.unreduced(replacement.letters(), generators);
+        changed[RECORD * slot..RECORD * (slot + 1)].copy_from_slice(&record(letters));
+        calls.call([&changed], []);
     }
 }

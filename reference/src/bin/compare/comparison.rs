@@ -1,0 +1,197 @@
+//! The comparison of one entry: the buffers that are lent again and again, the two calls, the count
+//! of those that agreed, and the report of the first that did not, which ends the program.
+
+use crate::entries::Entry;
+use crate::inputs::{rooms, LONG_LENGTHS};
+use crate::lent::{LentAnswer, Pair};
+use std::process::exit;
+use subgroups_reference::answers::{Answer, REFUSED};
+use subgroups_reference::records::RECORD;
+use subgroups_reference::refusals::{LETTER_AFTER_STOP, SYSTEM_UNEVEN};
+
+/// The names of the verdicts, in the order of their numbers.
+const VERDICTS: [&str; 3] = ["done", "member", "not a member"];
+
+/// What was seen in the calls that agreed.
+#[derive(Default)]
+pub struct Seen {
+    pub calls: u64,
+    verdicts: [u64; 3],
+    refusals: [u64; 14],
+    /// How many systems were reduced.
+    pub reduced: u64,
+    pub most_moves: u64,
+}
+
+/// Another check of a call that was not refused, on what the Rust version was lent and has left.
+pub type Check<const INPUTS: usize, const BUFFERS: usize> =
+    fn([&[u8]; INPUTS], [&[u8]; BUFFERS], Answer) -> Result<(), &'static str>;
+
+/// An entry with its buffers, the answers of the last call, and what was seen so far.
+pub struct Comparison<const INPUTS: usize, const BUFFERS: usize> {
+    name: &'static str,
+    entry: Entry<INPUTS, BUFFERS>,
+    inputs: [Pair; INPUTS],
+    buffers: [Pair; BUFFERS],
+    proved: LentAnswer,
+    rust: Answer,
+    pub another_check: Option<Check<INPUTS, BUFFERS>>,
+    pub seen: Seen,
+}
+
+impl<const INPUTS: usize, const BUFFERS: usize> Comparison<INPUTS, BUFFERS> {
+    /// The comparison of an entry with these names, before the first call.
+    pub fn new(
+        name: &'static str,
+        entry: Entry<INPUTS, BUFFERS>,
+        inputs: [&'static str; INPUTS],
+        buffers: [&'static str; BUFFERS],
+    ) -> Self {
+        Comparison {
+            name,
+            entry,
+            inputs: inputs.map(Pair::new),
+            buffers: buffers.map(Pair::new),
+            proved: LentAnswer::new(),
+            rust: Answer::default(),
+            another_check: None,
+            seen: Seen::default(),
+        }
+    }
+
+    /// Makes one call on both sides, with buffers of these lengths, and ends the program if they disagree.
+    pub fn call(&mut self, inputs: [&[u8]; INPUTS], lengths: [usize; BUFFERS]) {
+        for (pair, input) in self.inputs.iter_mut().zip(inputs) {
+            pair.copy(input);
+        }
+        for (pair, length) in self.buffers.iter_mut().zip(lengths) {
+            pair.fill(length);
+        }
+        self.proved = LentAnswer::new();
+        (self.entry.proved)(
+            self.inputs.each_ref().map(|pair| pair.proved.part()),
+            self.buffers.each_mut().map(|pair| pair.proved.part_mut()),
+            &mut self.proved.numbers,
+        );
+        self.rust = (self.entry.rust)(
+            self.inputs.each_ref().map(|pair| pair.rust.part()),
+            self.buffers.each_mut().map(|pair| pair.rust.part_mut()),
+        );
+        self.check();
+    }
+
+    /// Makes calls with every mixture of buffer lengths around those needed.
+    pub fn call_with_all_rooms(&mut self, inputs: [&[u8]; INPUTS], needed: [usize; BUFFERS]) {
+        let choices = rooms(0).len();
+        for mixture in 0..choices.pow(BUFFERS as u32) {
+            let mut rest = mixture;
+            let lengths = needed.map(|needed| {
+                let length = rooms(needed)[rest % choices];
+                rest /= choices;
+                length
+            });
+            self.call(inputs, lengths);
+        }
+    }
+
+    /// Makes calls with every length of one buffer up to a record more than needed, and very long ones.
+    pub fn call_with_every_length(
+        &mut self,
+        inputs: [&[u8]; INPUTS],
+        needed: [usize; BUFFERS],
+        buffer: usize,
+    ) {
+        for length in (0..=needed[buffer] + RECORD + 3).chain(LONG_LENGTHS) {
+            let mut lengths = needed;
+            lengths[buffer] = length;
+            self.call(inputs, lengths);
+        }
+    }
+
+    /// The answer to the last call.
+    pub fn answer(&self) -> Answer {
+        self.rust
+    }
+
+    /// What the Rust version has left in one of the buffers.
+    pub fn left_in(&self, buffer: usize) -> &[u8] {
+        self.buffers[buffer].rust.part()
+    }
+
+    /// Counts the last call if both sides agree, and ends the program if they do not.
+    fn check(&mut self) {
+        let mut pairs = self.inputs.iter().chain(&self.buffers);
+        let same_bytes = pairs.all(|pair| pair.difference().is_none());
+        let same_numbers = self.proved.numbers == self.rust.numbers();
+        if !same_numbers || !same_bytes || !self.proved.alone_written() {
+            self.end_with("the two sides disagree");
+        }
+        if let Some(check) = self.another_check.filter(|_| self.rust.verdict != REFUSED) {
+            let inputs = self.inputs.each_ref().map(|pair| pair.rust.part());
+            let buffers = self.buffers.each_ref().map(|pair| pair.rust.part());
+            if let Err(fault) = check(inputs, buffers, self.rust) {
+                self.end_with(fault);
+            }
+        }
+        self.seen.calls += 1;
+        self.seen.reduced += self.rust.reduced;
+        self.seen.most_moves = self.seen.most_moves.max(self.rust.moves);
+        if self.rust.verdict == REFUSED {
+            self.seen.refusals[self.rust.number as usize] += 1;
+        } else {
+            self.seen.verdicts[self.rust.verdict as usize] += 1;
+        }
+    }
+
+    /// Says how many calls agreed, after a look that the refusals of a system and just these others
+    /// were among them, and gives the number of calls.
+    pub fn end(&self, refusals: &[u64]) -> u64 {
+        let name = self.name;
+        let mut outcomes = Vec::new();
+        for (verdict, count) in VERDICTS.iter().zip(self.seen.verdicts) {
+            if count > 0 {
+                outcomes.push(format!("{verdict} {count}"));
+            }
+        }
+        for (number, count) in (0..).zip(self.seen.refusals) {
+            if count > 0 {
+                outcomes.push(format!("refused {number}: {count}"));
+            }
+            let of_system = (SYSTEM_UNEVEN..=LETTER_AFTER_STOP).contains(&number);
+            let expected = of_system || refusals.contains(&number);
+            assert_eq!(count > 0, expected, "{name} and refusal {number}");
+        }
+        let calls = self.seen.calls;
+        println!("{name}: {calls} calls agree ({})", outcomes.join(", "));
+        calls
+    }
+
+    /// Prints the last call with what is wrong and ends the program with a failure.
+    pub fn end_with(&self, fault: &str) -> ! {
+        println!("{}: {fault}", self.name);
+        for pair in &self.inputs {
+            let bytes = pair.rust.part();
+            println!("{}, {} bytes:", pair.name, bytes.len());
+            for line in bytes.chunks(RECORD) {
+                println!("  {}", line.escape_ascii());
+            }
+        }
+        for pair in &self.buffers {
+            println!("{}: {} bytes", pair.name, pair.rust.part().len());
+        }
+        println!("verdict, number, place, moves, rank, independent, reduced");
+        println!("  proved library: {:?}", self.proved.numbers);
+        println!("  Rust version:   {:?}", self.rust.numbers());
+        if !self.proved.alone_written() {
+            println!("the proved library wrote beside its answer");
+        }
+        for pair in self.inputs.iter().chain(&self.buffers) {
+            if let Some((place, one, two)) = pair.difference() {
+                let name = pair.name;
+                println!("{name}: byte {place} is {one:#04x} from the proved library, {two:#04x} from the Rust version");
+            }
+        }
+        println!("{} calls agreed before", self.seen.calls);
+        exit(1);
+    }
+}
