@@ -1,4 +1,4 @@
-/* Lends NULL for each buffer whose length is 0, to every call: what the call needs nothing of may be nothing. */
+/* Lends NULL for buffers of length 0, each buffer of each call at least once, and prints the answers. */
 #include <stdio.h>
 
 #include "records.h"

@@ -1,9 +1,12 @@
 /* Records for the examples: a word written as its record, and read back. */
+#ifndef RECORDS_H
+#define RECORDS_H
+
 #include <string.h>
 
 #include "subgroups.h"
 
-/* Writes a word as its record. */
+/* Writes a word of at most 63 letters as its record. */
 static inline void put_record(uint8_t *record, const char *word) {
     memset(record, '.', SUBGROUPS_RECORD - 1);
     memcpy(record, word, strlen(word));
@@ -23,3 +26,5 @@ static inline int word_length(const uint8_t *record) {
         n++;
     return n;
 }
+
+#endif

@@ -1,12 +1,12 @@
-/* Provokes each refusal once, in the order of their numbers, and prints its number and place; the exit status says whether each
- * is the one that the header's name stands for. */
+/* Provokes each refusal once, in the order of their numbers, and prints its number and place. The exit status is 0 if each is the
+ * one that the header's name stands for. */
 #include <stdio.h>
 
 #include "records.h"
 
 enum { MOST = SUBGROUPS_RECORD * (SUBGROUPS_SLOTS + 1) };
 
-static uint8_t system_of_two[MOST], target[SUBGROUPS_RECORD], words[MOST], log[4 * SUBGROUPS_MOVE], product[SUBGROUPS_RECORD];
+static uint8_t system_of_two[MOST], target[SUBGROUPS_RECORD], words[MOST], moves[4 * SUBGROUPS_MOVE], product[SUBGROUPS_RECORD];
 static int wrong;
 
 /* Prints a refusal, and counts it where it is not the one expected. */
@@ -26,16 +26,16 @@ static void expect_damaged(enum subgroups_refusal refusal, const char *name, siz
 }
 
 /* Replays a log over the words ab and b. */
-static void expect_replay(enum subgroups_refusal refusal, const char *name, const char *moves) {
+static void expect_replay(enum subgroups_refusal refusal, const char *name, const char *log) {
     subgroups_answer answer;
-    subgroups_replay(system_of_two, 2 * SUBGROUPS_RECORD, (const uint8_t *)moves, strlen(moves), 0, words, sizeof words, &answer);
+    subgroups_replay(system_of_two, 2 * SUBGROUPS_RECORD, (const uint8_t *)log, strlen(log), 0, words, sizeof words, &answer);
     expect(refusal, name, &answer);
 }
 
 /* Asks about the target over the words ab and b, with so many bytes lent for the words, the log and the product. */
 static void expect_member(enum subgroups_refusal refusal, const char *name, size_t word_room, size_t log_room, size_t product_room) {
     subgroups_answer answer;
-    subgroups_member(system_of_two, 2 * SUBGROUPS_RECORD, target, sizeof target, words, word_room, log, log_room, product,
+    subgroups_member(system_of_two, 2 * SUBGROUPS_RECORD, target, sizeof target, words, word_room, moves, log_room, product,
                      product_room, &answer);
     expect(refusal, name, &answer);
 }
@@ -58,7 +58,7 @@ int main(void) {
     expect_damaged(SUBGROUPS_LETTER_AFTER_STOP, "letter after stop", 70, 'c');
 
     target[2] = '?';
-    expect_member(SUBGROUPS_TARGET_OR_PRODUCT_MALFORMED, "target or product malformed", sizeof words, sizeof log, sizeof product);
+    expect_member(SUBGROUPS_TARGET_OR_PRODUCT_MALFORMED, "target or product malformed", sizeof words, sizeof moves, sizeof product);
     put_record(target, "a");
 
     expect_replay(SUBGROUPS_LOG_UNEVEN, "log uneven", "a4b");
@@ -68,8 +68,8 @@ int main(void) {
     subgroups_multiply(system_of_two, 2 * SUBGROUPS_RECORD, product, sizeof product, words, sizeof words, &answer);
     expect(SUBGROUPS_SLOT_MISSING, "slot missing", &answer);
 
-    expect_member(SUBGROUPS_WORDS_BUFFER_SHORT, "words buffer short", 127, sizeof log, sizeof product);
-    expect_member(SUBGROUPS_PRODUCT_BUFFER_SHORT, "product buffer short", sizeof words, sizeof log, 63);
+    expect_member(SUBGROUPS_WORDS_BUFFER_SHORT, "words buffer short", 127, sizeof moves, sizeof product);
+    expect_member(SUBGROUPS_PRODUCT_BUFFER_SHORT, "product buffer short", sizeof words, sizeof moves, 63);
 
     put_record(product, "aa");
     subgroups_multiply(longest, sizeof longest, product, sizeof product, words, sizeof words, &answer);

@@ -1,5 +1,5 @@
-/* Walks a worked sheet through the C header: a system is reduced, its log is followed forward and backward, and a product
- * over the reduced words is multiplied out. */
+/* Walks a worked example through the C header: a system is reduced, its log is followed forward and backward, a product over the
+ * reduced words is multiplied out, the given system is tested, and a system of 63 bytes is refused. */
 #include <stdio.h>
 #include <stdlib.h>
 
@@ -7,7 +7,7 @@
 
 enum { WORDS = 3 };
 
-/* Ends the program where a call was turned down. */
+/* Ends the program where a call was refused. */
 static void expect_done(const char *call, const subgroups_answer *answer) {
     if (answer->verdict == SUBGROUPS_REFUSED) {
         printf("%s: refused %d at %d\n", call, (int)answer->number, (int)answer->place);
@@ -52,6 +52,7 @@ int main(void) {
     print_words("Bc is", word, 1);
 
     subgroups_test(system, sizeof system, &answer);
+    expect_done("test", &answer);
     printf("given reduced: %s\n", answer.reduced ? "yes" : "no");
     subgroups_tidy(system, SUBGROUPS_RECORD - 1, words, sizeof words, &answer);
     printf("63 bytes: refused %d at %d\n", (int)answer.number, (int)answer.place);

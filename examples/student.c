@@ -1,4 +1,4 @@
-/* Walks a student's sheet: thirty targets are asked of one system, and each product is multiplied out over the reduced
+/* Walks a student's exercise: thirty targets are asked of one system, and each product is multiplied out over the reduced
  * words, as a reader would do it by hand. */
 #include <stdio.h>
 
@@ -22,9 +22,10 @@ static int ask(const uint8_t *system, const char *target) {
         return 0;
     }
     printf("%s: member, %.*s\n", target, word_length(product), (const char *)product);
-    subgroups_multiply(words, sizeof words, product, sizeof product, word, sizeof word, &answer);
-    subgroups_tidy(record, sizeof record, tidied, sizeof tidied, &answer);
-    return memcmp(word, tidied, SUBGROUPS_RECORD) == 0;
+    subgroups_answer multiplied, reduced;
+    subgroups_multiply(words, sizeof words, product, sizeof product, word, sizeof word, &multiplied);
+    subgroups_tidy(record, sizeof record, tidied, sizeof tidied, &reduced);
+    return multiplied.verdict == SUBGROUPS_DONE && reduced.verdict == SUBGROUPS_DONE && memcmp(word, tidied, SUBGROUPS_RECORD) == 0;
 }
 
 int main(void) {

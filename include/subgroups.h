@@ -5,6 +5,9 @@
  * multiply a product out. Every call takes byte buffers of any length and content, and either does its work or refuses; for
  * every input its answer and each byte that it leaves are proved. docs/REQUIREMENTS.md says in full what is promised.
  *
+ *                rt staticlib subgroups_c
+ *                gcc -Iinclude program.c target/staticlib/libsubgroups_c.a
+ *
  * Words      A generator is a letter a to z, its inverse the capital: aB is a, then the inverse of b. A word has at most
  *            63 letters. Free reduction removes neighbours such as aA and Aa until none are left.
  *
@@ -20,7 +23,8 @@
  * Products   A product over the slots of a system is a record too: a slot's letter stands for its word, the capital for the
  *            inverse of its word. Over the slots ab, ac, ad the product Bc is the inverse of ac, then ad: it comes to Cd.
  *
- * Logs       A log is moves of 4 bytes, one after the other, the first move first, with no header and no end mark:
+ * Logs       A log is log records of 4 bytes, one for each move, the first move first, with no header and no end mark. Slots are
+ *            named by their small letters, a to p, and a move has two different ones:
  *
  *                byte   0               1         2             3
  *                a4b    slot changed    form      other slot    \n
@@ -30,7 +34,9 @@
  *
  * Buffers    words needs 64 bytes for each record of the system, product and word 64, log 4 for each move. A longer buffer
  *            does no harm: bytes after the last one written stay as they were. A refusal changes nothing but the answer,
- *            except that under SUBGROUPS_LOG_BUFFER_SHORT the log holds, as whole moves, the first that fit.
+ *            except that under SUBGROUPS_LOG_BUFFER_SHORT the log holds, as whole log records, the first moves that fit.
+ *            How many moves a system takes is not known beforehand: most take a few dozen, more than 1,000 have been seen, and
+ *            no bound is promised. A caller that gets SUBGROUPS_LOG_BUFFER_SHORT lends a longer log and calls again.
  *            A buffer that is written (words, log, product, word, answer) must not overlap any other; buffers that are only
  *            read may. Where a length is 0 its pointer may be anything, NULL too; answer must not be NULL.
  *
@@ -70,30 +76,34 @@ enum {
     SUBGROUPS_RECORD = 64,  /* the bytes of a record */
     SUBGROUPS_LETTERS = 63, /* the most letters of a word */
     SUBGROUPS_SLOTS = 16,   /* the most records of a system */
-    SUBGROUPS_MOVE = 4      /* the bytes of a move in a log */
+    SUBGROUPS_MOVE = 4      /* the bytes of a log record, which is one move */
 };
 
 /* What a call says: answer.verdict. */
 enum subgroups_verdict {
-    SUBGROUPS_DONE = 0,
-    SUBGROUPS_MEMBER = 1,
-    SUBGROUPS_NOT_MEMBER = 2,
-    SUBGROUPS_REFUSED = 3
+    SUBGROUPS_DONE = 0,       /* every call but member, where it is not refused */
+    SUBGROUPS_MEMBER = 1,     /* member alone */
+    SUBGROUPS_NOT_MEMBER = 2, /* member alone */
+    SUBGROUPS_REFUSED = 3     /* number and place say why and where */
 };
 
-/* Why a call refuses: answer.number. A call tests what it takes in the order of the numbers, 3 to 5 record by record, and
- * gives the first refusal. answer.place is 0 where nothing else is said; places are counted from 0. */
+/* Why a call refuses: answer.number. Each call tests the refusals that stand at it below, in the order of their numbers, 3 to 5
+ * record by record, and gives the first. answer.place is 0 where nothing else is said here; a place that is a byte counts from 0
+ * at the beginning of its buffer. */
 enum subgroups_refusal {
     SUBGROUPS_SYSTEM_UNEVEN = 1,               /* the system's length is not a multiple of 64 */
     SUBGROUPS_TOO_MANY_RECORDS = 2,            /* the system has more than 16 records */
     SUBGROUPS_NO_LINE_FEED = 3,                /* byte 63 of a record is not a line feed; place: that byte in the system */
-    SUBGROUPS_NEITHER_LETTER_NOR_STOP = 4,     /* a byte before it is neither letter nor full stop; place: the first such */
-    SUBGROUPS_LETTER_AFTER_STOP = 5,           /* a letter stands after a full stop; place: the first such letter */
-    SUBGROUPS_TARGET_OR_PRODUCT_MALFORMED = 6, /* target or product is not 64 bytes or breaks 3, 4 or 5; place: the failing byte in it */
+    SUBGROUPS_NEITHER_LETTER_NOR_STOP = 4,     /* a byte before it is neither letter nor full stop; place: the first such
+                                                  byte in the system */
+    SUBGROUPS_LETTER_AFTER_STOP = 5,           /* a letter stands after a full stop; place: the first such in the system */
+    SUBGROUPS_TARGET_OR_PRODUCT_MALFORMED = 6, /* target or product is not 64 bytes long or breaks 3, 4 or 5; place: the
+                                                  failing byte in it, 0 where its length is wrong */
     SUBGROUPS_LOG_UNEVEN = 7,                  /* the length of the log to replay is not a multiple of 4 */
-    SUBGROUPS_LOG_RECORD_MALFORMED = 8,        /* not slot, digit 1 to 4, slot, line feed, with two different slots that the
-                                                  system has; place: the move's first byte in the log */
-    SUBGROUPS_SLOT_MISSING = 9,                /* the product names a slot that the system has not; place: the letter in it */
+    SUBGROUPS_LOG_RECORD_MALFORMED = 8,        /* a log record is not slot letter, digit 1 to 4, slot letter, line feed, with
+                                                  two different slots that the system has; place: its first byte in the log */
+    SUBGROUPS_SLOT_MISSING = 9,                /* the product names a slot that the system does not have; place: the first
+                                                  such letter in the product */
     SUBGROUPS_WORDS_BUFFER_SHORT = 10,         /* words, or word, has no room for the output */
     SUBGROUPS_PRODUCT_BUFFER_SHORT = 11,       /* the product buffer is shorter than 64 bytes */
     SUBGROUPS_WORD_TOO_LONG = 12,              /* a move of replay, or multiply, comes to more than 63 letters; place: in
@@ -111,7 +121,8 @@ typedef struct {
 void subgroups_tidy(const uint8_t *system, size_t system_len, uint8_t *words, size_t words_len,
                     subgroups_answer *answer);
 
-/* Says in reduced whether the freely reduced words of a system are reduced in Nielsen's sense. Refusals 1 to 5. */
+/* Says in reduced whether the freely reduced words of a system are reduced in Nielsen's sense (docs/REQUIREMENTS.md, 'Reduced
+ * systems, rank and independence'). Refusals 1 to 5. */
 void subgroups_test(const uint8_t *system, size_t system_len, subgroups_answer *answer);
 
 /* Writes the reduced words, each into its slot, and the log of the moves, and gives the number of moves, the rank (the number
@@ -120,8 +131,8 @@ void subgroups_test(const uint8_t *system, size_t system_len, subgroups_answer *
 void subgroups_reduce(const uint8_t *system, size_t system_len, uint8_t *words, size_t words_len,
                       uint8_t *log, size_t log_len, subgroups_answer *answer);
 
-/* Writes the words of a system after the moves of a log, forward where backward is 0, and otherwise undone, the last first.
- * Refusals 1 to 5, 7, 8, 10 and 12. */
+/* Writes the words of a system after the moves of a log, forward where backward is 0, and otherwise undone, the last first. The
+ * words are freely reduced first; moves may name blank slots. Refusals 1 to 5, 7, 8, 10 and 12. */
 void subgroups_replay(const uint8_t *system, size_t system_len, const uint8_t *log, size_t log_len,
                       uint8_t backward, uint8_t *words, size_t words_len, subgroups_answer *answer);
 
@@ -131,8 +142,8 @@ void subgroups_multiply(const uint8_t *system, size_t system_len, const uint8_t 
                         uint8_t *word, size_t word_len, subgroups_answer *answer);
 
 /* Writes all that reduce writes and gives its numbers, with the verdict member or not a member; for a member it writes the
- * product over the reduced words that comes to the target, and otherwise leaves product alone. Refusals 1 to 5, 6, 10, 11 and
- * 13. */
+ * product over the reduced words that comes to the freely reduced target, and otherwise leaves product alone. Refusals 1 to 5, 6,
+ * 10, 11 and 13. */
 void subgroups_member(const uint8_t *system, size_t system_len, const uint8_t *target, size_t target_len,
                       uint8_t *words, size_t words_len, uint8_t *log, size_t log_len,
                       uint8_t *product, size_t product_len, subgroups_answer *answer);

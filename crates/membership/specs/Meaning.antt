@@ -20,7 +20,7 @@ use Rattle.multiply.specs.Multiply.{multiplyRules}
 use Rattle.reduction.specs.Meaning.{EnoughMoves, LogShort, Reduces}
 use Rattle.reduction.specs.declared.answers.Reduction.{Reduction}
 
--- "in well-formed records with enough room lent for all results": 64 bytes of word buffer for each record, 64 bytes of product buffer,
+-- "in well-formed records with enough room lent for all results": 64 bytes of words buffer for each record, 64 bytes of product buffer,
 -- "and in the log buffer room for one log record for each move that the rules make on S"; that no byte of these three lies in
 -- another buffer is what lending them mutably means
 pub record EnoughRoom (given target words log product : List ℕ) : Type 0 where

@@ -8,7 +8,7 @@ use Rattle.records.specs.Refusals.{eachByte}
 use Rattle.records.specs.declared.answers.Checked.{Checked}
 use Rattle.slots.specs.Factors.{factorOf}
 
--- 9. "The product names a slot that the system has not."
+-- 9. "The product names a slot that the system does not have."
 abbrev pub hasSlot : ℕ → ℕ → Bool
 hasSlot n b = ltb (factorOf b .slot) n
 

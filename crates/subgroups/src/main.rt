@@ -6,6 +6,9 @@ use crate::input::read_input;
 use membership::member;
 use moves::log::MOVE;
 use records::answers::Verdict;
+use records::refusals::SYSTEM_UNEVEN;
+use records::refusals::TARGET_OR_PRODUCT_MALFORMED;
+use records::refusals::TOO_MANY_RECORDS;
 use reduction::answers::Reduction;
 
 fn main() {
@@ -17,15 +20,15 @@ fn main() {
     }
     let size = input.size;
     if size == 0 {
-        print_refusal(6, 0);
+        print_refusal(TARGET_OR_PRODUCT_MALFORMED, 0);
         return;
     }
     if size % 64 != 0 {
-        print_refusal(1, 0);
+        print_refusal(SYSTEM_UNEVEN, 0);
         return;
     }
     if size > 1088 {
-        print_refusal(2, 0);
+        print_refusal(TOO_MANY_RECORDS, 0);
         return;
     }
     let records = &kept[0..size];
@@ -41,7 +44,7 @@ fn decide(system: &[u8], target: &[u8]) {
     let answer = member(system, target, &mut words, &mut log, &mut product);
     let verdict = answer.verdict;
     match verdict {
-        Verdict::Refused(refusal) => print_refusal(refusal.number as u64, refusal.place as u64),
+        Verdict::Refused(refusal) => print_refusal(refusal.number, refusal.place),
         Verdict::Member => {
             print_reduction(answer, true, system.len(), &words, &log);
             io::write_all(1, &product);
@@ -92,10 +95,10 @@ fn print_yes_or_no(yes: bool) {
 }
 
 // Prints the line of a refusal: its number and its place.
-fn print_refusal(number: u64, place: u64) {
+fn print_refusal(number: u8, place: usize) {
     io::write_all(1, b"refused ");
-    io::print_decimal(1, number);
+    io::print_decimal(1, number as u64);
     io::write_all(1, b" at ");
-    io::print_decimal(1, place);
+    io::print_decimal(1, place as u64);
     io::write_all(1, b"\n");
 }

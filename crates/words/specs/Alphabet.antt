@@ -1,4 +1,4 @@
--- Letters, each with its inverse. Document 01: "A generator is one of a to z; its inverse is the capital."
+-- Letters, each with its inverse. docs/REQUIREMENTS.md: "A generator is one of a to z; its inverse is the capital."
 use Prim.Native.Nat.{ℕ, _+_, _-_, _%_}
 use mathlib.Core.Bool.{Bool, cond}
 use lib.Dec.{ltb, eqb}
