@@ -2,8 +2,8 @@
  *
  * A few words generate a subgroup of a free group. The calls below reduce such a system of words in Nielsen's sense, decide
  * whether a word lies in the subgroup and give the product that it is, follow a log of moves forward and backward, and
- * multiply a product out. Every call takes byte buffers of any length and content, and either does its work or refuses; for
- * every input its answer and each byte that it leaves are proved. docs/REQUIREMENTS.md says in full what is promised.
+ * multiply a product out. Every call takes byte buffers of any length and content, and either does its work or refuses; its
+ * answer and each byte that it leaves are proved for all of them. docs/REQUIREMENTS.md says in full what is promised.
  *
  *                rt staticlib subgroups_c
  *                gcc -Iinclude program.c target/staticlib/libsubgroups_c.a
@@ -35,8 +35,8 @@
  * Buffers    words needs 64 bytes for each record of the system, product and word 64, log 4 for each move. A longer buffer
  *            does no harm: bytes after the last one written stay as they were. A refusal changes nothing but the answer,
  *            except that under SUBGROUPS_LOG_BUFFER_SHORT the log holds, as whole log records, the first moves that fit.
- *            How many moves a system takes is not known beforehand: most take a few dozen, more than 1,000 have been seen, and
- *            no bound is promised. A caller that gets SUBGROUPS_LOG_BUFFER_SHORT lends a longer log and calls again.
+ *            How many moves a system takes is not known beforehand: 16 random words take some dozens, more than 1,000 have been
+ *            seen, and no bound is promised. A caller that gets SUBGROUPS_LOG_BUFFER_SHORT lends a longer log and calls again.
  *            A buffer that is written (words, log, product, word, answer) must not overlap any other; buffers that are only
  *            read may. Where a length is 0 its pointer may be anything, NULL too; answer must not be NULL.
  *
@@ -98,10 +98,11 @@ enum subgroups_refusal {
                                                   byte in the system */
     SUBGROUPS_LETTER_AFTER_STOP = 5,           /* a letter stands after a full stop; place: the first such in the system */
     SUBGROUPS_TARGET_OR_PRODUCT_MALFORMED = 6, /* target or product is not 64 bytes long or breaks 3, 4 or 5; place: the
-                                                  failing byte in it, 0 where its length is wrong */
+                                                  first failing byte in it, 0 where its length is wrong */
     SUBGROUPS_LOG_UNEVEN = 7,                  /* the length of the log to replay is not a multiple of 4 */
     SUBGROUPS_LOG_RECORD_MALFORMED = 8,        /* a log record is not slot letter, digit 1 to 4, slot letter, line feed, with
-                                                  two different slots that the system has; place: its first byte in the log */
+                                                  two different slots that the system has; place: the first byte of the first
+                                                  such in the log */
     SUBGROUPS_SLOT_MISSING = 9,                /* the product names a slot that the system does not have; place: the first
                                                   such letter in the product */
     SUBGROUPS_WORDS_BUFFER_SHORT = 10,         /* words, or word, has no room for the output */

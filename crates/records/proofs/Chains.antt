@@ -45,6 +45,10 @@ must-fine false n at e = let z : _≡_ {A = ℕ} 0 1 = cc in absurd (omega arith
 pub must-passed : (b : Bool) (n at : ℕ) {x : Checked} → x ≡ must b n at → x ≡ Fine → b ≡ true
 must-passed b n at e h = must-fine b n at (sym e ∙ h)
 
+pub must-refused : (b : Bool) (n at : ℕ) {x : Checked} {f : Refusal} → x ≡ must b n at → x ≡ Failed f → (b ≡ false) × (x ≡ refusal n at)
+must-refused false n at e h = (refl, e)
+must-refused true n at e h = let z : _≡_ {A = ℕ} 0 1 = cc in absurd (omega arith)
+
 pub must-fail : (b : Bool) (n at : ℕ) {x : Checked} → b ≡ false → x ≡ refusal n at → x ≡ must b n at
 must-fail b n at e h = rw e h
 

@@ -7,10 +7,10 @@ use native.Mathlib.Decide.{decLt, ℕ-discrete}
 use native.Mathlib.Nat.{add-assoc, add-zero, le-antisymm, le-of-eq}
 use native.Mathlib.Numerals.{add-one}
 use native.Mathlib.Omega.{arith}
-use lib.Dec.{ltb}
+use lib.Dec.{eqb, ltb}
 use lib.ListN.{drop, drop-of-length-le, getD, length, length-drop, take}
 use lib.Seq.{getD-drop, getD-take, length-take-le, take-suc}
-use borrow.Author.Tests.{eq-eqb, le-leb, le-ltb, lt-leb, lt-ltb, ne-eqb}
+use borrow.Author.Tests.{eq-eqb, eqb-true, le-leb, le-ltb, lt-leb, lt-ltb, ne-eqb}
 use Rattle.words.proofs.Buffers.{drop-here, rest-part}
 use Rattle.records.specs.Records.{beforeStop, isLetter, isLetterOrStop, isStop, notLetter, wordOf}
 use Rattle.records.specs.Refusals.{byteRule, eachByte, lettersRule, must, refusal}
@@ -18,7 +18,7 @@ use Rattle.records.specs.Stops.{stopsRule}
 use Rattle.records.specs.declared.answers.Checked.{Checked}
 use Rattle.records.specs.declared.answers.Checked.the-variants.{Failed, Fine}
 use Rattle.records.specs.declared.answers.Refusal.{Refusal}
-use Rattle.records.proofs.Chains.{fine-first, must-fine, must-passed, then-failed, then-fine, told-false, told-true}
+use Rattle.records.proofs.Chains.{fine-first, must-fine, must-passed, must-refused, then-failed, then-fine, told-false, told-true}
 
 -- a byte is a letter or not, by where it stands
 module _ (b : ℕ) where
@@ -115,16 +115,21 @@ module _ (s : List ℕ) (at : ℕ) where
     unfolding stopsRule
     stops-end l = rw (here, drop-of-length-le s l)
 
-    pub stops-more : i < length s → getD s i 0 ≡ 46 → stopsRule s at ≡ stopsRule (drop (i + 1) s) (at + (i + 1))
+    pub stops-more : {x : Checked} → i < length s → x ≡ must (eqb (getD s i 0) 46) 5 (at + i) → x ≡ Fine
+        → stopsRule s at ≡ stopsRule (drop (i + 1) s) (at + (i + 1))
     unfolding stopsRule
-    stops-more inside e = rw (here, drop-here s i inside, e, next-place)
+    stops-more inside e h = rw (here, drop-here s i inside, eqb-true (getD s i 0) 46 (must-passed _ _ _ e h), next-place)
 
     pub stops-rest : {r : Checked} → r ≡ stopsRule (take (length s - i) (drop i s)) (at + i) → r ≡ stopsRule s at
     stops-rest h = h ∙ ap (λ (l : List ℕ). stopsRule l (at + i)) (rest-part s i) ∙ sym here
 
--- a byte that is no full stop is left
-pub rest-first : (s : List ℕ) (i : ℕ) → (getD s i 0 ≡ 46 → ⊥) → getD (take (length s - i) (drop i s)) 0 0 ≡ 46 → ⊥
-rest-first s i n e = n (sym (first-of s i) ∙ e)
+-- a byte that is no full stop is left, and refusal 5 at its place
+module _ (s : List ℕ) (i at : ℕ) {x : Checked} {f : Refusal} (e : x ≡ must (eqb (getD s i 0) 46) 5 at) (h : x ≡ Failed f) where
+  pub rest-first : getD (take (length s - i) (drop i s)) 0 0 ≡ 46 → ⊥
+  rest-first stop = true≢false (sym (eq-eqb _ _ (sym (first-of s i) ∙ stop)) ∙ must-refused (eqb (getD s i 0) 46) 5 at e h .0)
+
+  pub rest-refused : x ≡ refusal 5 at
+  rest-refused = must-refused (eqb (getD s i 0) 46) 5 at e h .1
 
 pub rest-filled : (s : List ℕ) (i : ℕ) → i < length s → 0 < length (take (length s - i) (drop i s))
 rest-filled s i inside = rw (rest-part s i, length-drop i s) (omega arith)

@@ -3,7 +3,7 @@ ghost use Prim.Native.Nat.{_<_, _≤_};
 ghost use mathlib.Core.Path.{_≡_};
 ghost use lib.ListN.{getD, length, take};
 ghost use Rattle.records.specs.Records.{blanks, isLetter, isLetterOrStop, recordOf, wordOf};
-ghost use Rattle.records.specs.Refusals.{asSix, byteRule, lettersRule, recordRules, targetRules};
+ghost use Rattle.records.specs.Refusals.{asSix, byteRule, lettersRule, recordRules, refusal, targetRules};
 ghost use Rattle.records.specs.Stops.{stopsRule};
 use crate::answers::Checked;
 use crate::answers::check_that;
@@ -97,7 +97,7 @@ fn check_letters(letters: &[u8], at: usize) -> Checked
     Checked::Fine
 }
 
-// Then the full stops.
+// Then the full stops: refusal 5 at the first byte after them, unless 4 goes before it.
 fn check_stops(bytes: &[u8], at: usize) -> Checked
     requires { ⌜ length (now bytes) ≤ 64 ⌝ }
     requires { ⌜ at ≤ 8192 ⌝ }
@@ -105,25 +105,27 @@ fn check_stops(bytes: &[u8], at: usize) -> Checked
 {
     let mut i = 0;
     while i < bytes.len() {
-        if bytes[i] != STOP {
-            return check_rest(&bytes[i..], at + i);
-        }
+        let ordered = check_that(bytes[i] == STOP, LETTER_AFTER_STOP, at + i);
+        let Checked::Fine = ordered else {
+            return check_rest(&bytes[i..], at + i, ordered);
+        };
         i += 1;
     }
     Checked::Fine
 }
 
-// What comes after them breaks a rule: 4 where a byte is neither a letter nor a full stop, or else 5 at the first.
-fn check_rest(bytes: &[u8], at: usize) -> Checked
+// What comes after the full stops breaks a rule: 4 where a byte is neither a letter nor a full stop, or else 5 at the first.
+fn check_rest(bytes: &[u8], at: usize, ordered: Checked) -> Checked
     requires { ⌜ (length (now bytes) ≤ 64) × (at ≤ 16384) ⌝ }
     requires { ⌜ (getD (now bytes) 0 0 ≡ 46 → ⊥) × (0 < length (now bytes)) ⌝ }
+    requires { ⌜ ordered ≡ refusal 5 at ⌝ }
     ensures { λ r. ⌜ r ≡ stopsRule (now (bytes .entry)) at ⌝ }
 {
     let checked = check_bytes(bytes, at);
     let Checked::Fine = checked else {
         return checked;
     };
-    refuse(LETTER_AFTER_STOP, at)
+    ordered
 }
 
 // Refusal 4: every byte is a letter or a full stop.

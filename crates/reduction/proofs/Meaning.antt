@@ -36,7 +36,7 @@ use Rattle.slots.specs.Refusals.{systemRoom, systemRules}
 use Rattle.slots.specs.Systems.{bytesOf, freelyReducedWords, slots, systemOf}
 use Rattle.slots.proofs.RoundTrip.{AllShort, LetterWords, bytesOf-length, bytesOf-slots, reduced-letters, reduced-short, system-back, system-length, system-passes}
 use Rattle.slots.proofs.Systems.{loaded-freelyReduced, room-fits, system-few}
-use Rattle.moves.specs.Logs.{logOf, logRules, moveSize, movesIn}
+use Rattle.moves.specs.Logs.{logOf, logRules, moveSize}
 use Rattle.moves.proofs.LogBack.{AllBetween, logOf-length, logOf-moves, logOf-passes, valid-between}
 use Rattle.replay.specs.Replay.{replayRules, runRules}
 use Rattle.replay.proofs.Accepting.{replay-accepts, run-accepts}
@@ -275,8 +275,7 @@ module _ (s log : List ℕ) (tests : Checked) (passed : tests ≡ Fine) (enough 
         firstThatFit =
             λ e.
             let count : length (runMoves s (roomFor log)) ≡ roomFor log = ap length first ∙ length-take-le (roomFor log) (runMoves s enough) (omega (arith, over e)) in
-            ap movesIn (ap (λ (k : ℕ). take (k * moveSize) log′) (sym count) ∙ logged-moves s log log′ tests passed logged)
-            ∙ logOf-moves (runMoves s (roomFor log)) ∙ first;
+            ap (λ (k : ℕ). take (k * moveSize) log′) (sym count) ∙ logged-moves s log log′ tests passed logged ∙ ap logOf first;
       }
 
 -- reduce: a call that is done has passed its tests

@@ -17,7 +17,7 @@ use Rattle.slots.specs.Refusals.{systemRules}
 use Rattle.records.specs.Answers.{refusalNumber}
 use Rattle.records.specs.declared.answers.Checked.the-variants.{Fine}
 use Rattle.records.specs.declared.answers.Verdict.the-variants.{Done}
-use Rattle.moves.specs.Logs.{moveSize, movesIn}
+use Rattle.moves.specs.Logs.{logOf, moveSize, movesIn}
 use Rattle.replay.specs.Replay.{replayRules, replayed}
 use Rattle.runs.specs.Runs.{roomFor}
 use Rattle.reduction.specs.declared.answers.Reduction.{Reduction}
@@ -57,7 +57,7 @@ pub record LogShort (moves : List Move) (log log′ : List ℕ) (answer : Reduct
   -- "The moves number more than a quarter of the log buffer's length, rounded down."
   pub refused : (refusalNumber (answer .verdict) ≡ 13) ↔ (roomFor log < length moves)
   -- "Under 13 the log holds, as whole records, the first moves that fit"
-  pub firstThatFit : refusalNumber (answer .verdict) ≡ 13 → movesIn (take (roomFor log * moveSize) log′) ≡ take (roomFor log) moves
+  pub firstThatFit : refusalNumber (answer .verdict) ≡ 13 → take (roomFor log * moveSize) log′ ≡ logOf (take (roomFor log) moves)
 
 -- the moves that the rules make are finitely many; wherever a well-formed system's words and moves have room, reduce is done; where only
 -- the moves have none, it is refused with 13; and whenever it is done, W is what it wrote into the words buffer, and L what it wrote into

@@ -16,13 +16,8 @@ enum-told-2 c = search needs
 returns : tie.Need-returns
 returns c = search (rest-bytes, needs)
 
-refuse-requires : tie.Need-refuse-requires
-refuse-requires c κs = search needs
-
 returns-2 : tie.Need-returns-2
 returns-2 c = search (rest-letter, needs)
 
 pub check-rest-spec : {M : Type 1} → statement M
-check-rest-spec =
-    tie.close
-    (tie.spec check-bytes-requires enum-told enum-told-2 returns refuse-requires returns-2)
+check-rest-spec = tie.close (tie.spec check-bytes-requires enum-told enum-told-2 returns returns-2)

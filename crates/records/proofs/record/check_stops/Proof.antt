@@ -4,7 +4,7 @@ use mathlib.Core.Path.{_≡_}
 use lib.ListN.{drop, length}
 use borrow.Author.Needs.{needs}
 use Rattle.records.specs.Stops.{stopsRule}
-use Rattle.records.proofs.Rules.{rest-filled, rest-first, stops-begin, stops-end, stops-more, stops-rest}
+use Rattle.records.proofs.Rules.{rest-filled, rest-first, rest-refused, stops-begin, stops-end, stops-more, stops-rest}
 use Rattle.records.proofs.record.check_stops.Statement.{statement}
 use Rattle.records.proofs.record.check_stops.Tie as tie
 
@@ -18,8 +18,20 @@ abbrev μ-loop : tie.MeasureT-loop
 loop-holds : tie.Need-loop-holds Inv-loop μ-loop
 loop-holds c = search (stops-begin, needs)
 
-shared-slice-read-if1 : tie.Need-shared-slice-read-if1 Inv-loop μ-loop
-shared-slice-read-if1 c = search needs
+shared-slice-read-check-that : tie.Need-shared-slice-read-check-that Inv-loop μ-loop
+shared-slice-read-check-that c = search needs
+
+add-check-that : tie.Need-add-check-that Inv-loop μ-loop
+add-check-that c = search needs
+
+check-that-requires : tie.Need-check-that-requires Inv-loop μ-loop
+check-that-requires c κs = search needs
+
+enum-told : tie.Need-enum-told Inv-loop μ-loop
+enum-told c = search needs
+
+enum-told-2 : tie.Need-enum-told-2 Inv-loop μ-loop
+enum-told-2 c = search needs
 
 sub-check-rest : tie.Need-sub-check-rest Inv-loop μ-loop
 sub-check-rest c = search needs
@@ -34,7 +46,7 @@ add-check-rest : tie.Need-add-check-rest Inv-loop μ-loop
 add-check-rest c = search needs
 
 check-rest-requires : tie.Need-check-rest-requires Inv-loop μ-loop
-check-rest-requires c κs = (search needs, (search (rest-first, needs), search (rest-filled, needs)))
+check-rest-requires c κs = (search needs, (search (rest-first, rest-filled, needs), search (rest-refused, needs)))
 
 returns : tie.Need-returns Inv-loop μ-loop
 returns c = search (stops-rest, needs)
@@ -58,7 +70,11 @@ check-stops-spec =
     Inv-loop
     μ-loop
     loop-holds
-    shared-slice-read-if1
+    shared-slice-read-check-that
+    add-check-that
+    check-that-requires
+    enum-told
+    enum-told-2
     sub-check-rest
     part-check-rest-start
     part-check-rest-end
