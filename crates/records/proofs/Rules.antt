@@ -123,13 +123,13 @@ module _ (s : List ℕ) (at : ℕ) where
     pub stops-rest : {r : Checked} → r ≡ stopsRule (take (length s - i) (drop i s)) (at + i) → r ≡ stopsRule s at
     stops-rest h = h ∙ ap (λ (l : List ℕ). stopsRule l (at + i)) (rest-part s i) ∙ sym here
 
--- a byte that is no full stop is left, and refusal 5 at its place
-module _ (s : List ℕ) (i at : ℕ) {x : Checked} {f : Refusal} (e : x ≡ must (eqb (getD s i 0) 46) 5 at) (h : x ≡ Failed f) where
+-- a byte that is no full stop is left, and the refusal at its place
+module _ (s : List ℕ) (i n at : ℕ) {x : Checked} {f : Refusal} (e : x ≡ must (eqb (getD s i 0) 46) n at) (h : x ≡ Failed f) where
   pub rest-first : getD (take (length s - i) (drop i s)) 0 0 ≡ 46 → ⊥
-  rest-first stop = true≢false (sym (eq-eqb _ _ (sym (first-of s i) ∙ stop)) ∙ must-refused (eqb (getD s i 0) 46) 5 at e h .0)
+  rest-first stop = true≢false (sym (eq-eqb _ _ (sym (first-of s i) ∙ stop)) ∙ must-refused (eqb (getD s i 0) 46) n at e h .0)
 
-  pub rest-refused : x ≡ refusal 5 at
-  rest-refused = must-refused (eqb (getD s i 0) 46) 5 at e h .1
+  pub rest-refused : x ≡ refusal n at
+  rest-refused = must-refused (eqb (getD s i 0) 46) n at e h .1
 
 pub rest-filled : (s : List ℕ) (i : ℕ) → i < length s → 0 < length (take (length s - i) (drop i s))
 rest-filled s i inside = rw (rest-part s i, length-drop i s) (omega arith)
