@@ -1,11 +1,17 @@
 // Reads records from standard input, the last one the target and the earlier ones the system, and prints the reduced system, the log and,
 // for a member, the product; or one line that says why the input is refused.
+ghost use Prim.Native.Nat.{_≤_};
+ghost use mathlib.Core.Path.{_≡_};
+
 mod input;
 
 use crate::input::read_input;
 use membership::member;
 use moves::log::MOVE;
+use records::answers::Checked;
 use records::answers::Verdict;
+use records::answers::check_that;
+use records::record::RECORD;
 use records::refusals::SYSTEM_UNEVEN;
 use records::refusals::TARGET_OR_PRODUCT_MALFORMED;
 use records::refusals::TOO_MANY_RECORDS;
@@ -19,21 +25,42 @@ fn main() {
         return;
     }
     let size = input.size;
-    if size == 0 {
-        print_refusal(TARGET_OR_PRODUCT_MALFORMED, 0);
+    let checked = check_size(size);
+    let Checked::Fine = checked else {
+        print_checked(checked);
         return;
-    }
-    if size % 64 != 0 {
-        print_refusal(SYSTEM_UNEVEN, 0);
-        return;
-    }
-    if size > 1088 {
-        print_refusal(TOO_MANY_RECORDS, 0);
-        return;
-    }
+    };
     let records = &kept[0..size];
-    let split = size - 64;
+    let split = size - RECORD;
     decide(&records[0..split], &records[split..size]);
+}
+
+// Refusals 6, 1 and 2 by the size of the input, which has the target for its last record.
+fn check_size(size: usize) -> Checked
+    ensures least { λ r. ⌜ (r ≡ Checked.Fine → 64 ≤ size) ⌝ }
+    ensures most { λ r. ⌜ (r ≡ Checked.Fine → size ≤ 1088) ⌝ }
+{
+    let some = check_that(size != 0, TARGET_OR_PRODUCT_MALFORMED, 0);
+    let Checked::Fine = some else {
+        return some;
+    };
+    let even = check_that(size % RECORD == 0, SYSTEM_UNEVEN, 0);
+    let Checked::Fine = even else {
+        return even;
+    };
+    let few = check_that(size <= 1088, TOO_MANY_RECORDS, 0);
+    let Checked::Fine = few else {
+        return few;
+    };
+    Checked::Fine
+}
+
+// Prints the refusal that a test found.
+fn print_checked(checked: Checked) {
+    match checked {
+        Checked::Fine => {}
+        Checked::Failed(refusal) => print_refusal(refusal.number, refusal.place),
+    }
 }
 
 // Decides whether a target is a member, and prints the answer.
