@@ -201,7 +201,7 @@ module _ (s t words log product : List ℕ) (passed : memberChecked s t words lo
     means = elim (option-cases (memberFound s t words log product)) [ inl e ↦ missed e | inr f ↦ hit f.0 f.1 ]
 
 -- with room for the words and the product the call passes its tests before the run
-tests-pass : (s t : List ℕ) (room productRoom : ℕ) → systemRules s ≡ Fine → targetRules t ≡ Fine → slots s * 64 ≤ room → 64 ≤ productRoom
+pub tests-pass : (s t : List ℕ) (room productRoom : ℕ) → systemRules s ≡ Fine → targetRules t ≡ Fine → slots s * 64 ≤ room → 64 ≤ productRoom
     → memberTests s t room productRoom ≡ Fine
 unfolding memberTests
 tests-pass s t room productRoom system target fits product =

@@ -8,6 +8,9 @@ use Rattle.slots.specs.Refusals.{systemRules, wordRoom, systemRoom}
 use Rattle.slots.specs.Systems.{freelyReducedWords}
 use Rattle.systems.specs.Factoring.{leading}
 use Rattle.membership.specs.Membership.{memberTests}
+use Rattle.output.specs.Lines.{firstLine, refusalLine}
+use Rattle.output.specs.Output.{answerOutput, inputRules, logLent, productLent, programOutput, wordsLent}
+use Rattle.output.specs.Text.{decimal}
 use Rattle.sheets.specs.Sheets.{EachSays, sheets}
 
 -- what one sheet says, and what the rest say
@@ -16,7 +19,7 @@ _and_ : {A B : Type 0} → A → B → A × B
 a and b = (a, b)
 
 pub sheets-hold : EachSays sheets
-unfolding flipByte inverse shortening halfEnd next leading recordRules lettersRule systemRules wordRoom freelyReducedWords systemRoom targetRules memberTests
+unfolding flipByte inverse shortening halfEnd next leading recordRules lettersRule systemRules wordRoom freelyReducedWords systemRoom targetRules memberTests decimal refusalLine firstLine inputRules wordsLent logLent productLent answerOutput programOutput
 sheets-hold =
     (refl, refl)
     and (refl, refl)
@@ -30,4 +33,8 @@ sheets-hold =
     and ((refl, refl, refl), (refl, refl, refl, refl))
     and ((refl, refl, refl), (refl, refl, refl, refl))
     and (refl, refl, refl)
+    and refl
+    and refl
+    and refl
+    and refl
     and tt

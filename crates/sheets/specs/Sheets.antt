@@ -1,7 +1,6 @@
 -- The worked sheets of docs/REQUIREMENTS.md that have a label, as one list, and what each says over the definitions.
 use Prim.Native.Nat.{ℕ, _*_}
-use Prim.Native.String.{String, [] as no-text, _∷_ as _then_}
-use Prim.Native.Char.{code}
+use Prim.Native.String.{String}
 use mathlib.Core.Path.{_≡_}
 use mathlib.Core.Bool.{Bool, true, false}
 use mathlib.Core.List.{List, [], _∷_, _++_}
@@ -14,11 +13,8 @@ use Rattle.records.specs.declared.answers.Verdict.the-variants.{Done, Member, N
 use Rattle.reduction.specs.Reduction.{reduceAnswer, reduceWords, reduceLog}
 use Rattle.reduction.specs.declared.answers.Reduction.{Reduction}
 use Rattle.membership.specs.Membership.{memberAnswer, memberLog, memberProduct, memberWords}
-
--- the bytes of a text
-abbrev pub bytesIn : String → List ℕ
-bytesIn no-text = []
-bytesIn (c then s) = code c ∷ bytesIn s
+use Rattle.output.specs.Output.{programOutput}
+use Rattle.output.specs.Text.{bytesIn}
 
 -- the record of a word that is given as text, and the system of several
 abbrev pub recordIn : String → List ℕ
@@ -28,10 +24,10 @@ abbrev pub systemIn : List String → List ℕ
 systemIn [] = []
 systemIn (w ∷ rest) = recordIn w ++ systemIn rest
 
--- a log whose records are given as text, without their line feeds
-abbrev pub logIn : List String → List ℕ
-logIn [] = []
-logIn (m ∷ rest) = bytesIn m ++ (10 ∷ logIn rest)
+-- lines that are given as text, without their line feeds; a log is such lines
+abbrev pub linesIn : List String → List ℕ
+linesIn [] = []
+linesIn (l ∷ rest) = bytesIn l ++ (10 ∷ linesIn rest)
 
 -- a lent buffer of question marks
 abbrev pub lent : ℕ → List ℕ
@@ -55,6 +51,8 @@ pub data Sheet : Type 0 where
   member : String → Outcome → String → String → Sheet
   -- words, and a target that is not a member
   notMember : String → Outcome → String → Sheet
+  -- words on the program's standard input, the last one the target, and the lines that it prints
+  prints : String → List String → List String → Sheet
 
 -- the answer of reduce or of member, with its verdict
 abbrev pub answer : Outcome → Verdict → Reduction
@@ -69,14 +67,14 @@ abbrev pub Reduces : Outcome → Type 0
 Reduces o =
     (reduceAnswer (systemIn (o .given)) (wordsLent o) (lent 64) ≡ answer o Done)
     × (reduceWords (systemIn (o .given)) (wordsLent o) (lent 64) ≡ systemIn (o .reduced))
-    × (reduceLog (systemIn (o .given)) (wordsLent o) (lent 64) ≡ written (logIn (o .log)) (lent 64))
+    × (reduceLog (systemIn (o .given)) (wordsLent o) (lent 64) ≡ written (linesIn (o .log)) (lent 64))
 
 -- what member answers and writes: all that reduce does, the verdict, and the product buffer afterwards
 abbrev pub Decides : Outcome → String → Verdict → List ℕ → Type 0
 Decides o target verdict product =
     (memberAnswer (systemIn (o .given)) (recordIn target) (wordsLent o) (lent 64) (lent 64) ≡ answer o verdict)
     × (memberWords (systemIn (o .given)) (recordIn target) (wordsLent o) (lent 64) (lent 64) ≡ systemIn (o .reduced))
-    × (memberLog (systemIn (o .given)) (recordIn target) (wordsLent o) (lent 64) (lent 64) ≡ written (logIn (o .log)) (lent 64))
+    × (memberLog (systemIn (o .given)) (recordIn target) (wordsLent o) (lent 64) (lent 64) ≡ written (linesIn (o .log)) (lent 64))
     × (memberProduct (systemIn (o .given)) (recordIn target) (wordsLent o) (lent 64) (lent 64) ≡ product)
 
 -- what a sheet says
@@ -86,6 +84,7 @@ Says (tidies label given result) =
 Says (reduces label o) = Reduces o
 Says (member label o target product) = Reduces o × Decides o target Member (recordIn product)
 Says (notMember label o target) = Reduces o × Decides o target NotMember (lent 64)
+Says (prints label given lines) = programOutput (systemIn given) ≡ linesIn lines
 
 -- what every sheet of a list says
 abbrev pub EachSays : List Sheet → Type 0
@@ -117,4 +116,20 @@ sheets =
     ∷ notMember "P10" noWords "a"
     ∷ member "P11" (outcome ("ab" ∷ "ab" ∷ []) ("a2b" ∷ []) ("" ∷ "ab" ∷ []) 1 false) "abab" "bb"
     ∷ reduces "P12" (outcome ("aA" ∷ "b" ∷ []) [] ("" ∷ "b" ∷ []) 1 true)
+    ∷ prints "P3" ("ab" ∷ "b" ∷ "a" ∷ [])
+    ("moves 1 rank 2 independent yes member yes"
+    ∷ "a.............................................................."
+    ∷ "b.............................................................."
+    ∷ "a4b"
+    ∷ "a.............................................................."
+    ∷ [])
+    ∷ prints "P6" ("ab" ∷ "ac" ∷ "Bd" ∷ "d" ∷ [])
+    ("moves 1 rank 3 independent yes member no"
+    ∷ "ab............................................................."
+    ∷ "ac............................................................."
+    ∷ "ad............................................................."
+    ∷ "c1a"
+    ∷ [])
+    ∷ prints "no input" [] ("refused 6 at 0" ∷ [])
+    ∷ prints "neither letter nor stop" ("ab" ∷ "b7" ∷ "a" ∷ []) ("refused 4 at 65" ∷ [])
     ∷ []

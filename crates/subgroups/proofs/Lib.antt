@@ -1,2 +1,2 @@
--- Laws that the proofs of several functions cite.
-pub mod Size
+-- Laws that the proof of main cites.
+pub mod Cases

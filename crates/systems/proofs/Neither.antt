@@ -133,7 +133,7 @@ module _ {A : Type 0} (G : Alphabet A) where
     | inr r ↦ rw (moves-more n S r.0 r.1) (ap suc (moves-full n (made G S r.0) m (rw (run-more n S r.0 r.1) at e)))
   ]
 
-  moves-most : (n : ℕ) (S : List (List A)) → length (movesWithin G n S) ≤ n
+  pub moves-most : (n : ℕ) (S : List (List A)) → length (movesWithin G n S) ≤ n
   moves-most zero S = omega arith
   moves-most (suc n) S = elim (option-cases (next G S)) [
     | inl e ↦ rw (moves-stop (suc n) S e) (omega arith)

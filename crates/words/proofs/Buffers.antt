@@ -1,13 +1,14 @@
 -- Buffers that a loop reads or writes one byte at a time.
 use Prim.Native.Nat.{_+_, _-_, _<_, _≤_, suc, ℕ}
-use mathlib.Core.List.{List, _++_, _∷_, append-assoc}
-use mathlib.Core.Path.{_∙_, _≡_, ap}
+use mathlib.Core.List.{List, [], _++_, _∷_, append-assoc, append-nil}
+use mathlib.Core.Path.{_∙_, _≡_, ap, refl}
 use native.Mathlib.Nat.{le-antisymm}
 use native.Mathlib.Numerals.{add-one}
 use native.Mathlib.Omega.{arith}
 use lib.ListN.{drop, getD, length, length-drop, length-set, length-take, set, take}
-use lib.Seq.{drop-cons, length-take-le, set-at, take-all, take-at, take-length, take-suc}
-use Rattle.words.specs.Buffers.{written}
+use lib.Seq.{drop-cons, drop-length, length-take-le, set-at, take-all, take-at, take-length, take-suc}
+use borrow.Rule.Slice.PartMut.{putMid}
+use Rattle.words.specs.Buffers.{written, writtenAt}
 
 -- what is left of a list from a place within it: the byte there, and the rest
 pub drop-here : (s : List ℕ) (i : ℕ) → i < length s → drop i s ≡ getD s i 0 ∷ drop (i + 1) s
@@ -44,3 +45,10 @@ same-after l d i v e = length-set l i v ∙ e
 -- what was written at the beginning of a lent buffer
 pub written-take : (new buffer : List ℕ) (n : ℕ) → length new ≡ n → take n (written new buffer) ≡ new
 written-take new buffer n e = take-at new (drop (length new) buffer) n e
+
+-- what was written at the beginning of the rest of a buffer
+pub written-rest : (bytes buffer y : List ℕ) (at : ℕ) → y ≡ written bytes (take (length buffer - at) (drop at buffer))
+    → putMid at (length buffer - at) buffer y ≡ writtenAt at bytes buffer
+written-rest bytes buffer y at e =
+    let none : drop (length buffer - at) (drop at buffer) ≡ [] = rw (← length-drop at buffer) (drop-length (drop at buffer)) in
+    rw (none, append-nil, e, rest-part buffer at) refl

@@ -7,7 +7,7 @@ ghost use Rattle.words.specs.Words.{cancellation, commonPrefix, commonSu
 use crate::letters::flip;
 
 // The smaller of two numbers.
-fn least(a: usize, b: usize) -> usize
+pub fn least(a: usize, b: usize) -> usize
     ensures { λ r. ⌜ r ≡ min a b ⌝ }
 {
     if a < b { a } else { b }

@@ -1,6 +1,6 @@
 -- `subgroups::main` meets its contract.
 use borrow.Author.Needs.{needs}
-use Rattle.subgroups.proofs.Size.{size-kept}
+use Rattle.subgroups.proofs.Cases.{never-missing, never-short, whole-inside}
 use Rattle.subgroups.proofs.main.Statement.{statement}
 use Rattle.subgroups.proofs.main.Tie as tie
 
@@ -19,56 +19,52 @@ write-all-requires c κs = search needs
 returns : tie.Need-returns
 returns c = search needs
 
-check-size-requires : tie.Need-check-size-requires
-check-size-requires c κs = search needs
+slice-aggregate-print : tie.Need-slice-aggregate-print
+slice-aggregate-print c = search needs
+
+slice-aggregate-print-2 : tie.Need-slice-aggregate-print-2
+slice-aggregate-print-2 c = search needs
+
+print-requires : tie.Need-print-requires
+print-requires c κs = search needs
+
+enum-known-printed : tie.Need-enum-known-printed
+enum-known-printed c = search needs
+
+sub-write-output : tie.Need-sub-write-output
+sub-write-output c = search needs
+
+part-write-output-start : tie.Need-part-write-output-start
+part-write-output-start c = search needs
+
+part-write-output-end : tie.Need-part-write-output-end
+part-write-output-end c =
+    let inside = whole-inside _ _ _ (c .before .before .before .before .before .print .ensures .1 .1) (c .before .before .before .before .before .before .before .before .before .before .read-input .ensures) (search needs) (search needs) _ (c .before .before .printed .given .1) in
+    search needs
+
+write-output-requires : tie.Need-write-output-requires
+write-output-requires c κs = search needs
 
 enum-told : tie.Need-enum-told
 enum-told c = search needs
 
+never-requires : tie.Need-never-requires
+never-requires c κs = never-short _ _ _ (c .before .before .before .print .ensures .1 .1) (c .before .before .before .before .before .before .before .before .read-input .ensures) (search needs) (search needs) _ (c .enum-told .given .1)
+
 enum-told-2 : tie.Need-enum-told-2
 enum-told-2 c = search needs
 
-print-checked-requires : tie.Need-print-checked-requires
-print-checked-requires c κs = search needs
+never-requires-2 : tie.Need-never-requires-2
+never-requires-2 c κs = never-missing _ _ _ (c .before .before .before .print .ensures .1 .1) (c .before .before .before .before .before .before .before .before .read-input .ensures) (search needs) (search needs) (c .enum-told2 .given .1)
 
 returns-2 : tie.Need-returns-2
 returns-2 c = search needs
 
-sub-records : tie.Need-sub-records
-sub-records c = search needs
-
-part-records-start : tie.Need-part-records-start
-part-records-start c = search needs
-
-part-records-end : tie.Need-part-records-end
-part-records-end c = search (size-kept, c .before .before .before .check-size .ensures .1, needs)
-
-sub-split : tie.Need-sub-split
-sub-split c = search (c .before .before .before .before .check-size .ensures .0, needs)
-
-sub-decide : tie.Need-sub-decide
-sub-decide c = search needs
-
-part-decide-start : tie.Need-part-decide-start
-part-decide-start c = search needs
-
-part-decide-end : tie.Need-part-decide-end
-part-decide-end c = search needs
-
-sub-decide-2 : tie.Need-sub-decide-2
-sub-decide-2 c = search needs
-
-part-decide-start-2 : tie.Need-part-decide-start-2
-part-decide-start-2 c = search needs
-
-part-decide-end-2 : tie.Need-part-decide-end-2
-part-decide-end-2 c = search needs
-
-decide-requires : tie.Need-decide-requires
-decide-requires c κs = search needs
-
 returns-3 : tie.Need-returns-3
 returns-3 c = search needs
+
+returns-4 : tie.Need-returns-4
+returns-4 c = search needs
 
 pub main-spec : {M : Type 1} → statement M
 main-spec =
@@ -79,20 +75,18 @@ main-spec =
     slice-aggregate-write-all
     write-all-requires
     returns
-    check-size-requires
+    slice-aggregate-print
+    slice-aggregate-print-2
+    print-requires
+    enum-known-printed
+    sub-write-output
+    part-write-output-start
+    part-write-output-end
+    write-output-requires
     enum-told
+    never-requires
     enum-told-2
-    print-checked-requires
+    never-requires-2
     returns-2
-    sub-records
-    part-records-start
-    part-records-end
-    sub-split
-    sub-decide
-    part-decide-start
-    part-decide-end
-    sub-decide-2
-    part-decide-start-2
-    part-decide-end-2
-    decide-requires
-    returns-3)
+    returns-3
+    returns-4)

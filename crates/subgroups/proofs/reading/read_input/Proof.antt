@@ -1,19 +1,20 @@
--- `subgroups::input::read_input` meets its contract.
-use Prim.Native.Nat.{_≤_}
+-- `subgroups::reading::read_input` meets its contract.
 use mathlib.Core.Path.{_≡_}
 use lib.ListN.{length}
 use borrow.Author.Needs.{needs}
-use Rattle.subgroups.proofs.input.read_input.Statement.{statement}
-use Rattle.subgroups.proofs.input.read_input.Tie as tie
+use Rattle.input.specs.Input.{ReadInput}
+use Rattle.input.proofs.Keeping.{more-read, nothing-read}
+use Rattle.subgroups.proofs.reading.read_input.Statement.{statement}
+use Rattle.subgroups.proofs.reading.read_input.Tie as tie
 
 abbrev Inv-loop : tie.InvT-loop
-Inv-loop kept₀ chunk₀ size₀ turns₀ kept chunk size turns = (length kept ≡ length kept₀) × (4096 ≡ length chunk) × (size ≤ 200000)
+Inv-loop kept₀ chunk₀ size₀ turns₀ kept chunk size turns = (length kept ≡ length kept₀) × (4096 ≡ length chunk) × ReadInput kept size
 
 abbrev μ-loop : tie.MeasureT-loop
 μ-loop kept₀ chunk₀ size₀ turns₀ kept chunk size turns = turns
 
 loop-holds : tie.Need-loop-holds Inv-loop μ-loop
-loop-holds c = search needs
+loop-holds c = search (nothing-read, needs)
 
 slice-aggregate-read : tie.Need-slice-aggregate-read Inv-loop μ-loop
 slice-aggregate-read c = search needs
@@ -51,9 +52,6 @@ part-keep-end c = search needs
 keep-requires : tie.Need-keep-requires Inv-loop μ-loop
 keep-requires c κs = search needs
 
-more-requires : tie.Need-more-requires Inv-loop μ-loop
-more-requires c κs = search needs
-
 sub-turns : tie.Need-sub-turns Inv-loop μ-loop
 sub-turns c = search needs
 
@@ -61,7 +59,7 @@ loop-less : tie.Need-loop-less Inv-loop μ-loop
 loop-less c = search needs
 
 loop-again : tie.Need-loop-again Inv-loop μ-loop
-loop-again c = search needs
+loop-again c = (search needs, search needs, search (more-read, c .before .before .keep .ensures .1 .1, needs))
 
 same-length-3 : tie.Need-same-length-3 Inv-loop μ-loop
 same-length-3 c = search needs
@@ -88,7 +86,6 @@ read-input-spec =
     part-keep-start
     part-keep-end
     keep-requires
-    more-requires
     sub-turns
     loop-less
     loop-again

@@ -1,8 +1,9 @@
--- `subgroups::check_size` meets its contract.
+-- `output::check_input` meets its contract.
 use borrow.Author.Needs.{needs}
-use Rattle.subgroups.proofs.Size.{refused-not-fine, size-least, size-most}
-use Rattle.subgroups.proofs.check_size.Statement.{statement}
-use Rattle.subgroups.proofs.check_size.Tie as tie
+use Rattle.records.proofs.Chains.{then-end, then-failed, then-fine}
+use Rattle.output.specs.Output.{inputRules}
+use Rattle.output.proofs.check_input.Statement.{statement}
+use Rattle.output.proofs.check_input.Tie as tie
 
 check-that-requires : tie.Need-check-that-requires
 check-that-requires c κs = search needs
@@ -14,7 +15,8 @@ enum-told-2 : tie.Need-enum-told-2
 enum-told-2 c = search needs
 
 returns : tie.Need-returns
-returns c = ((λ e. search (refused-not-fine, needs)), (λ e. search (refused-not-fine, needs)))
+unfolding inputRules
+returns c = search (then-failed, needs)
 
 check-that-requires-2 : tie.Need-check-that-requires-2
 check-that-requires-2 c κs = search needs
@@ -26,7 +28,8 @@ enum-told-4 : tie.Need-enum-told-4
 enum-told-4 c = search needs
 
 returns-2 : tie.Need-returns-2
-returns-2 c = ((λ e. search (refused-not-fine, needs)), (λ e. search (refused-not-fine, needs)))
+unfolding inputRules
+returns-2 c = search (then-failed, then-fine, needs)
 
 check-that-requires-3 : tie.Need-check-that-requires-3
 check-that-requires-3 c κs = search needs
@@ -38,13 +41,15 @@ enum-told-6 : tie.Need-enum-told-6
 enum-told-6 c = search needs
 
 returns-3 : tie.Need-returns-3
-returns-3 c = ((λ e. search (refused-not-fine, needs)), (λ e. search (refused-not-fine, needs)))
+unfolding inputRules
+returns-3 c = search (then-fine, needs)
 
 returns-4 : tie.Need-returns-4
-returns-4 c = ((λ e. search (size-least, needs)), (λ e. search (size-most, needs)))
+unfolding inputRules
+returns-4 c = search (then-end, then-fine, needs)
 
-pub check-size-spec : {M : Type 1} → statement M
-check-size-spec =
+pub check-input-spec : {M : Type 1} → statement M
+check-input-spec =
     tie.close
     (tie.spec
     check-that-requires

@@ -1,0 +1,32 @@
+-- What is kept and counted of the program's input: "Of its input the program keeps the first 1,088 bytes .. and counts them all".
+use Prim.Native.Nat.{_%_, _+_, _-_, _<_, min, ℕ}
+use mathlib.Core.Bool.{cond}
+use mathlib.Core.List.{List}
+use mathlib.Core.Logic.{_⊎_}
+use mathlib.Core.Path.{_≡_}
+use lib.Dec.{leb}
+use lib.ListN.{getD, length, take}
+use Rattle.words.specs.Buffers.{writtenAt}
+
+-- a length as it is counted: exact up to 1,088, the bytes of 17 records; over that a number over 1,088 with the same remainder by 64
+unfoldable pub counted : ℕ → ℕ
+counted n = cond (leb n 1088) n (1152 + n % 64)
+
+-- a buffer after the next bytes of an input of which so many came before: they go after those, up to byte 1,088 and as far as there is room
+abbrev pub keptAfter : List ℕ → List ℕ → ℕ → List ℕ
+keptAfter next kept size = writtenAt size (take (min 1088 (length kept) - size) next) kept
+
+-- what a count tells of a length: it is the length, or both are over 1,088 with the same remainder by 64
+abbrev pub CountOf : ℕ → ℕ → Type 0
+CountOf n size = (size ≡ n) ⊎ ((1088 < size) × (1088 < n) × (size % 64 ≡ n % 64))
+
+-- what is known of an input from the bytes kept and the count
+pub record Holds (input kept : List ℕ) (size : ℕ) : Type 0 where
+  -- the kept bytes are its first ones, up to 1,088 and as far as there is room
+  pub first : (i : ℕ) → i < length input → i < length kept → i < 1088 → getD kept i 0 ≡ getD input i 0
+  pub count : CountOf (length input) size
+
+-- and that there is such an input
+pub record ReadInput (kept : List ℕ) (size : ℕ) : Type 0 where
+  pub input : List ℕ
+  pub holds : Holds input kept size

@@ -1,0 +1,4 @@
+-- Laws that the proofs of several functions cite.
+pub mod Texts
+pub mod Printing
+pub mod Meaning

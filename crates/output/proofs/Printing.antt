@@ -1,0 +1,199 @@
+-- An output in parts, and from the bytes kept.
+use Prim.Native.Nat.{_%_, _*_, _/_, _+_, _-_, _<_, _≤_, ℕ}
+use mathlib.Core.Bool.{Bool, cond, false, not, true}
+use mathlib.Core.List.{List, [], _++_, append-nil}
+use mathlib.Core.Logic.{inl, inr}
+use mathlib.Core.Option.{Option, none, some}
+use mathlib.Core.Path.{_∙_, _≡_, ap, refl, sym}
+use native.Mathlib.Omega.{arith}
+use lib.Dec.{eqb, leb}
+use lib.ListN.{drop, length, length-append, length-take, replicate, take}
+use lib.Seq.{drop-at, length-take-le, take-add, take-take}
+use borrow.Author.Tests.{eqb-false, eqb-true, le-leb, leb-true, lt-leb, not-true}
+use Rattle.words.specs.Alphabet.{bytes}
+use Rattle.words.specs.Buffers.{written, writtenAt}
+use Rattle.words.proofs.Buffers.{front-part, written-take}
+use Rattle.systems.proofs.Logic.{bool-cases}
+use Rattle.systems.proofs.Neither.{moves-most}
+use Rattle.records.specs.Refusals.{_andThen_, must}
+use Rattle.records.specs.declared.answers.Checked.{Checked}
+use Rattle.records.specs.declared.answers.Checked.the-variants.{Failed, Fine}
+use Rattle.records.specs.declared.answers.Refusal.{Refusal}
+use Rattle.records.specs.declared.answers.Verdict.{Verdict}
+use Rattle.records.proofs.Chains.{fine-first, fine-next, must-fine}
+use Rattle.slots.specs.Systems.{freelyReducedWords}
+use Rattle.runs.specs.Runs.{roomFor}
+use Rattle.reduction.specs.Reduction.{reductionOf}
+use Rattle.reduction.specs.declared.answers.Reduction.{Reduction}
+use Rattle.factoring.specs.TargetProduct.{isFound}
+use Rattle.membership.specs.Membership.{memberAnswer, memberChecked, memberFound, memberLog, memberProduct, memberWords, verdictOf}
+use Rattle.output.specs.Lines.{answerLines, firstLine, isMember, linesAfter, refusalIn, refusalLine}
+use Rattle.output.specs.Output.{answerOutput, givenSystem, givenTarget, inputRules, logLent, productLent, programOutput, wordsLent}
+use Rattle.output.specs.Printing.{Prints, lengthOutput, outputFrom, printedAnswer, printedBuffer}
+use Rattle.output.specs.declared.answers.Printed.{Printed}
+use Rattle.output.specs.declared.answers.Printed.the-variants.{Missing, Short, Whole}
+use Rattle.output.proofs.Texts.{four-written}
+
+-- an output of another name
+prints-as : {o o′ : Option (List ℕ)} {out out′ : List ℕ} {r : Printed} → o ≡ o′ → Prints o out r out′ → Prints o′ out r out′
+prints-as e h = rw (← e) h
+
+-- no room for all parts, and room for them
+module _ (a b c d out : List ℕ) (shortA : length a ≤ 80) (shortB : length b ≤ 1024) (shortC : length c ≤ 65536) (shortD : length d ≤ 64) where
+  parts-length : length (a ++ b ++ c ++ d) ≡ length a + length b + length c + length d
+  parts-length = rw (length-append (a ++ b ++ c) d, length-append (a ++ b) c, length-append a b) refl
+
+  pub parts-short : length out < length a + length b + length c + length d
+      → Prints (some (a ++ b ++ c ++ d)) out (Short (length a + length b + length c + length d)) out
+  parts-short h =
+      let over : leb (length (a ++ b ++ c ++ d)) (length out) ≡ false = lt-leb (length (a ++ b ++ c ++ d)) (length out) (omega (arith, parts-length)) in
+      record { answered = rw (over, parts-length) refl; wrote = rw over refl; most = omega (arith, parts-length) }
+
+  pub parts-whole : {e₁ e₂ e₃ : ℕ} {out₁ out₂ out₃ out₄ : List ℕ} → length a + length b + length c + length d ≤ length out
+      → out₁ ≡ writtenAt 0 a out → e₁ ≡ 0 + length a → out₂ ≡ writtenAt e₁ b out₁ → e₂ ≡ e₁ + length b → out₃ ≡ writtenAt e₂ c out₂
+      → e₃ ≡ e₂ + length c → out₄ ≡ writtenAt e₃ d out₃
+      → Prints (some (a ++ b ++ c ++ d)) out (Whole (length a + length b + length c + length d)) out₄
+  parts-whole h first p₁ second p₂ third p₃ fourth =
+      let within : leb (length (a ++ b ++ c ++ d)) (length out) ≡ true = le-leb (length (a ++ b ++ c ++ d)) (length out) (omega (arith, parts-length)) in
+      record {
+        answered = rw (within, parts-length) refl;
+        wrote = rw within (four-written a b c out first p₁ second p₂ third p₃ d fourth);
+        most = omega (arith, parts-length);
+      }
+
+-- the bytes that were written at the beginning of a buffer
+part-is : (text buffer : List ℕ) (n : ℕ) {line : List ℕ} → line ≡ written text buffer → n ≡ length text → take (n - 0) line ≡ text
+part-is text buffer n wrote e = front-part _ n ∙ ap (take n) wrote ∙ written-take text buffer n (sym e)
+
+-- the line of a refusal
+pub refusal-printed : (f : Refusal) (buffer out : List ℕ) (n : ℕ) {line : List ℕ} {r : Printed} {out′ : List ℕ} → line ≡ written (refusalLine f) buffer
+    → n ≡ length (refusalLine f) → Prints (some (take (n - 0) line ++ [] ++ [] ++ [])) out r out′ → Prints (some (refusalLine f)) out r out′
+refusal-printed f buffer out n {line = line} wrote e h =
+    let same : take (n - 0) line ++ [] ++ [] ++ [] ≡ refusalLine f = rw (append-nil, append-nil, append-nil) (part-is (refusalLine f) buffer n wrote e) in
+    prints-as (ap some same) h
+
+-- the lines of an answer
+product-part : (yes : Bool) (product : List ℕ) {n : ℕ} → n ≡ cond yes 64 0 → take (n - 0) product ≡ cond yes (take 64 product) []
+product-part true product e = rw e (front-part product 64)
+product-part false product e = rw e refl
+
+pub lines-printed : (n : ℕ) (answer : Reduction) (words log product buffer out : List ℕ) {first last : ℕ} {line : List ℕ} {r : Printed} {out′ : List ℕ}
+    → line ≡ written (firstLine answer) buffer → first ≡ length (firstLine answer) → last ≡ cond (isMember (answer .verdict)) 64 0
+    → Prints (some (take (first - 0) line ++ take (n * 64 - 0) words ++ take (answer .moves * 4 - 0) log ++ take (last - 0) product)) out r out′
+    → Prints (some (answerLines n answer words log product)) out r out′
+lines-printed n answer words log product buffer out {first = first} {last = last} {line = line} wrote e told h =
+    let same : take (first - 0) line ++ take (n * 64 - 0) words ++ take (answer .moves * 4 - 0) log ++ take (last - 0) product ≡ answerLines n answer words log product =
+    rw (
+      part-is (firstLine answer) buffer first wrote e,
+      front-part words (n * 64),
+      front-part log (answer .moves * 4),
+      product-part (isMember (answer .verdict)) product told,
+    ) refl in
+    prints-as (ap some same) h
+
+-- one line on a refusal, and otherwise the lines of the answer
+module _ (c : Checked) (lines out : List ℕ) {x : Checked} {r : Printed} {out′ : List ℕ} (told : x ≡ c) where
+  pub after-refused : (f : Refusal) → x ≡ Failed f → Prints (some (refusalLine f)) out r out′ → Prints (some (linesAfter c lines)) out r out′
+  after-refused f e h = prints-as (rw (sym told ∙ e) refl) h
+
+  pub after-fine : x ≡ Fine → Prints (some lines) out r out′ → Prints (some (linesAfter c lines)) out r out′
+  after-fine e h = prints-as (rw (sym told ∙ e) refl) h
+
+-- the moves of an answer of member have room in the log
+reduction-moves : (c : Checked) (v : Verdict) (S : List (List ℕ)) (most : ℕ) → reductionOf c v S most .moves ≤ most
+reduction-moves Fine v S most = moves-most bytes most S
+reduction-moves (Failed f) v S most = omega arith
+
+pub moves-fit : (s t words log product : List ℕ) (log′ : List ℕ) {a : Reduction} → a ≡ memberAnswer s t words log product → length log′ ≡ length log
+    → a .moves * 4 ≤ length log′
+moves-fit s t words log product log′ {a = a} e same =
+    let few : a .moves ≤ length log / 4 = rw e
+    (reduction-moves (memberChecked s t words log product) (verdictOf (isFound (memberFound s t words log product))) (freelyReducedWords s) (roomFor log)) in
+    omega arith
+
+-- the buffers that the program lends
+pub words-lent : replicate 1024 0 ≡ wordsLent
+unfolding wordsLent
+words-lent = refl
+
+pub log-lent : replicate 65536 0 ≡ logLent
+unfolding logLent
+log-lent = refl
+
+pub product-lent : replicate 64 0 ≡ productLent
+unfolding productLent
+product-lent = refl
+
+-- the lines of an answer from the buffers that the program lends
+pub answer-printed : (s t out : List ℕ) {a : Reduction} {w l p w′ l′ p′ : List ℕ} {r : Printed} {out′ : List ℕ}
+    → w ≡ wordsLent → l ≡ logLent → p ≡ productLent → a ≡ memberAnswer s t w l p
+    → w′ ≡ memberWords s t w l p → l′ ≡ memberLog s t w l p → p′ ≡ memberProduct s t w l p
+    → Prints (some (linesAfter (refusalIn (a .verdict)) (answerLines (length s / 64) a w′ l′ p′))) out r out′ → Prints (some (answerOutput s t)) out r out′
+unfolding answerOutput
+answer-printed s t out lentW lentL lentP answered wrote logged gave h =
+    rw (← lentW, ← lentL, ← lentP, ← answered, ← wrote, ← logged, ← gave) h
+
+-- a length that passes is that of a target and of at most 16 records before it
+module _ (size : ℕ) (passed : inputRules size ≡ Fine) where
+  later : must (eqb (size % 64) 0) 1 0 andThen must (leb size 1088) 2 0 ≡ Fine
+  unfolding inputRules
+  later = fine-next (must (not (eqb size 0)) 6 0) _ passed
+
+  pub size-least : 64 ≤ size
+  unfolding inputRules
+  size-least =
+      let filled : size ≡ 0 → ⊥ = eqb-false size 0 (not-true (eqb size 0) (must-fine _ 6 0 (fine-first (must (not (eqb size 0)) 6 0) _ passed))) in
+      let whole : size % 64 ≡ 0 = eqb-true _ _ (must-fine _ 1 0 (fine-first (must (eqb (size % 64) 0) 1 0) _ later)) in
+      omega arith
+
+  pub size-most : size ≤ 1088
+  size-most = leb-true _ _ (must-fine _ 2 0 (fine-next (must (eqb (size % 64) 0) 1 0) _ later))
+
+  pub system-short : (kept : List ℕ) → length (take (size - 64 - 0) kept) ≤ 1024
+  system-short kept = omega (arith, length-take (size - 64 - 0) kept, size-most)
+
+  -- fewer bytes were kept, and all were
+  pub kept-missing : (kept out : List ℕ) → length kept < size → Prints (outputFrom kept size) out Missing out
+  unfolding outputFrom
+  kept-missing kept out h =
+      let none-left : none ≡ outputFrom kept size = rw (lt-leb size (length kept) h, passed) refl in
+      prints-as none-left (record { answered = refl; wrote = refl; most = omega arith })
+
+  module _ (kept out : List ℕ) (all : size ≤ length kept) where
+    kept-length : length (take size kept) ≡ size
+    kept-length = length-take-le size kept all
+
+    kept-system : givenSystem (take size kept) ≡ take (size - 64 - 0) kept
+    kept-system = rw kept-length (take-take (size - 64) size kept (omega arith) ∙ sym (front-part kept (size - 64)))
+
+    kept-target : givenTarget (take size kept) ≡ take (size - (size - 64)) (drop (size - 64) kept)
+    kept-target =
+        let back : size ≡ size - 64 + (size - (size - 64)) = omega arith in
+        let cut : take size kept ≡ take (size - 64) kept ++ take (size - (size - 64)) (drop (size - 64) kept) =
+        ap (λ (k : ℕ). take k kept) back ∙ take-add (size - 64) (size - (size - 64)) kept in
+        rw (kept-length, cut) (drop-at (take (size - 64) kept) _ (size - 64) (length-take-le (size - 64) kept (omega arith)))
+
+    pub kept-printed : {r : Printed} {out′ : List ℕ}
+        → Prints (some (answerOutput (take (size - 64 - 0) kept) (take (size - (size - 64)) (drop (size - 64) kept)))) out r out′
+        → Prints (outputFrom kept size) out r out′
+    unfolding outputFrom programOutput
+    kept-printed h =
+        let whole : some (answerOutput (take (size - 64 - 0) kept) (take (size - (size - 64)) (drop (size - 64) kept))) ≡ outputFrom kept size =
+        rw (le-leb size (length kept) all, ap inputRules kept-length, passed, kept-system, kept-target) refl in
+        prints-as whole h
+
+-- a refusal of the length
+pub refused-from : (kept : List ℕ) (size : ℕ) {f : Refusal} → inputRules size ≡ Failed f → outputFrom kept size ≡ some (refusalLine f)
+unfolding outputFrom programOutput
+refused-from kept size refused =
+    elim (bool-cases (leb size (length kept))) [
+      | inl all ↦ rw (all, ap inputRules (length-take-le size kept (leb-true size (length kept) all)), refused) refl
+      | inr missing ↦ rw (missing, refused) refl
+    ]
+
+pub length-refused : (kept out : List ℕ) (size : ℕ) {x : Checked} {f : Refusal} {r : Printed} {out′ : List ℕ} → x ≡ inputRules size → x ≡ Failed f
+    → Prints (some (refusalLine f)) out r out′ → Prints (outputFrom kept size) out r out′
+length-refused kept out size told e h = prints-as (sym (refused-from kept size (sym told ∙ e))) h
+
+pub length-passed : (size : ℕ) {x : Checked} → x ≡ inputRules size → x ≡ Fine → inputRules size ≡ Fine
+length-passed size told e = sym told ∙ e

@@ -1,0 +1,20 @@
+-- `output::lines::put_verdict` meets its contract.
+use borrow.Author.Needs.{needs}
+use Rattle.output.proofs.Texts.{end-next, pair-written}
+use Rattle.output.proofs.lines.put_verdict.Statement.{statement}
+use Rattle.output.proofs.lines.put_verdict.Tie as tie
+
+put-requires : tie.Need-put-requires
+put-requires c κs = search needs
+
+put-yes-or-no-requires : tie.Need-put-yes-or-no-requires
+put-yes-or-no-requires c κs = search needs
+
+same-length : tie.Need-same-length
+same-length c = search needs
+
+returns : tie.Need-returns
+returns c = (search (pair-written, needs), (search (end-next, needs), search needs))
+
+pub put-verdict-spec : {M : Type 1} → statement M
+put-verdict-spec = tie.close (tie.spec put-requires put-yes-or-no-requires same-length returns)

@@ -1,0 +1,5 @@
+pub mod Text
+pub mod Lines
+pub mod Output
+pub mod Printing
+pub mod Meaning
