@@ -1,4 +1,3 @@
 -- Laws that the proofs of several functions cite.
-pub mod Texts
 pub mod Printing
 pub mod Meaning

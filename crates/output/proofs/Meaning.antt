@@ -28,7 +28,7 @@ use Rattle.membership.specs.Meaning.{Answered, EnoughRoom, MemberMeans}
 use Rattle.membership.specs.Membership.{memberLog, memberProduct, memberWords}
 use Rattle.membership.proofs.Meaning.{member-means, tests-pass}
 use Rattle.input.specs.Input.{CountOf, Holds}
-use Rattle.output.specs.Lines.{refusalIn, refusalLine}
+use Rattle.lines.specs.Lines.{refusalIn, refusalLine}
 use Rattle.output.specs.Meaning.{Decided, PrintMeans, WellFormed}
 use Rattle.output.specs.Output.{answer, answerOutput, givenSystem, givenTarget, inputRules, logLent, productLent, programOutput, wordsLent}
 use Rattle.output.specs.Printing.{Prints, outputFrom}

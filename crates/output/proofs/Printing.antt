@@ -27,12 +27,12 @@ use Rattle.reduction.specs.Reduction.{reductionOf}
 use Rattle.reduction.specs.declared.answers.Reduction.{Reduction}
 use Rattle.factoring.specs.TargetProduct.{isFound}
 use Rattle.membership.specs.Membership.{memberAnswer, memberChecked, memberFound, memberLog, memberProduct, memberWords, verdictOf}
-use Rattle.output.specs.Lines.{answerLines, firstLine, isMember, linesAfter, refusalIn, refusalLine}
+use Rattle.lines.specs.Lines.{answerLines, firstLine, isMember, linesAfter, refusalIn, refusalLine}
 use Rattle.output.specs.Output.{answerOutput, givenSystem, givenTarget, inputRules, logLent, productLent, programOutput, wordsLent}
 use Rattle.output.specs.Printing.{Prints, lengthOutput, outputFrom, printedAnswer, printedBuffer}
 use Rattle.output.specs.declared.answers.Printed.{Printed}
 use Rattle.output.specs.declared.answers.Printed.the-variants.{Missing, Short, Whole}
-use Rattle.output.proofs.Texts.{four-written}
+use Rattle.lines.proofs.Texts.{four-written}
 
 -- an output of another name
 prints-as : {o o′ : Option (List ℕ)} {out out′ : List ℕ} {r : Printed} → o ≡ o′ → Prints o out r out′ → Prints o′ out r out′

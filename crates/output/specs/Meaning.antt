@@ -11,7 +11,7 @@ use Rattle.slots.specs.Refusals.{systemRules}
 use Rattle.reduction.specs.Meaning.{EnoughMoves}
 use Rattle.reduction.specs.declared.answers.Reduction.{Reduction}
 use Rattle.membership.specs.Meaning.{Answered, Decides}
-use Rattle.output.specs.Lines.{firstLine, isMember, refusalLine}
+use Rattle.lines.specs.Lines.{firstLine, isMember, refusalLine}
 use Rattle.output.specs.Output.{givenSystem, givenTarget, inputRules, programOutput}
 use Rattle.output.specs.declared.answers.Printed.{Printed}
 use Rattle.output.specs.declared.answers.Printed.the-variants.{Whole}

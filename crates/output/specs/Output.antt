@@ -9,7 +9,7 @@ use Rattle.records.specs.declared.answers.Checked.{Checked}
 use Rattle.slots.specs.Systems.{slots}
 use Rattle.reduction.specs.declared.answers.Reduction.{Reduction}
 use Rattle.membership.specs.Membership.{memberAnswer, memberLog, memberProduct, memberWords}
-use Rattle.output.specs.Lines.{answerLines, linesAfter, refusalIn}
+use Rattle.lines.specs.Lines.{answerLines, linesAfter, refusalIn}
 
 -- "The program takes the last record on its standard input as the target and the earlier ones as the system"
 abbrev pub givenSystem : List ℕ → List ℕ

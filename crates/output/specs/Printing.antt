@@ -9,7 +9,7 @@ use lib.ListN.{length, take}
 use Rattle.words.specs.Buffers.{written}
 use Rattle.records.specs.declared.answers.Checked.{Checked}
 use Rattle.records.specs.declared.answers.Checked.the-variants.{Failed, Fine}
-use Rattle.output.specs.Lines.{refusalLine}
+use Rattle.lines.specs.Lines.{refusalLine}
 use Rattle.output.specs.Output.{inputRules, programOutput}
 use Rattle.output.specs.declared.answers.Printed.{Printed}
 use Rattle.output.specs.declared.answers.Printed.the-variants.{Missing, Short, Whole}

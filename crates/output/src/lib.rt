@@ -7,18 +7,18 @@ ghost use mathlib.Core.Path.{_≡_};
 ghost use lib.ListN.{length};
 ghost use Rattle.records.specs.declared.answers.Checked.the-variants.{Fine};
 ghost use Rattle.input.specs.Input.{Holds};
-ghost use Rattle.output.specs.Lines.{answerLines, isMember, linesAfter, refusalIn, refusalLine};
+ghost use Rattle.lines.specs.Lines.{answerLines, isMember, linesAfter, refusalIn, refusalLine};
 ghost use Rattle.output.specs.Meaning.{PrintMeans};
 ghost use Rattle.output.specs.Output.{answerOutput, inputRules};
 ghost use Rattle.output.specs.Printing.{Prints, outputFrom, printedAnswer, printedBuffer};
 use crate::answers::Printed;
-use crate::lines::LINE;
-use crate::lines::first_line;
-use crate::lines::is_member;
-use crate::lines::put;
-use crate::lines::refusal_in;
-use crate::lines::refusal_line;
 use input::LONGEST;
+use lines::LINE;
+use lines::first_line;
+use lines::is_member;
+use lines::put;
+use lines::refusal_in;
+use lines::refusal_line;
 use membership::member;
 use moves::log::MOVE;
 use records::answers::Checked;
@@ -32,7 +32,6 @@ use records::refusals::TOO_MANY_RECORDS;
 use reduction::answers::Reduction;
 
 pub mod answers;
-pub mod lines;
 
 // Writes the program's output into a lent buffer, from the bytes kept of its input and the length of that.
 pub fn print(kept: &[u8], size: usize, out: &mut [u8]) -> Printed

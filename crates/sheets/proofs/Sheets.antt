@@ -8,9 +8,9 @@ use Rattle.slots.specs.Refusals.{systemRules, wordRoom, systemRoom}
 use Rattle.slots.specs.Systems.{freelyReducedWords}
 use Rattle.systems.specs.Factoring.{leading}
 use Rattle.membership.specs.Membership.{memberTests}
-use Rattle.output.specs.Lines.{firstLine, refusalLine}
+use Rattle.lines.specs.Lines.{firstLine, refusalLine}
 use Rattle.output.specs.Output.{answerOutput, inputRules, logLent, productLent, programOutput, wordsLent}
-use Rattle.output.specs.Text.{decimal}
+use Rattle.lines.specs.Text.{decimal}
 use Rattle.sheets.specs.Sheets.{EachSays, sheets}
 
 -- what one sheet says, and what the rest say

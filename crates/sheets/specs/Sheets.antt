@@ -14,7 +14,7 @@ use Rattle.reduction.specs.Reduction.{reduceAnswer, reduceWords, reduceLog}
 use Rattle.reduction.specs.declared.answers.Reduction.{Reduction}
 use Rattle.membership.specs.Membership.{memberAnswer, memberLog, memberProduct, memberWords}
 use Rattle.output.specs.Output.{programOutput}
-use Rattle.output.specs.Text.{bytesIn}
+use Rattle.lines.specs.Text.{bytesIn}
 
 -- the record of a word that is given as text, and the system of several
 abbrev pub recordIn : String → List ℕ

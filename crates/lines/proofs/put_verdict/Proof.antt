@@ -1,8 +1,8 @@
--- `output::lines::put_verdict` meets its contract.
+-- `lines::put_verdict` meets its contract.
 use borrow.Author.Needs.{needs}
-use Rattle.output.proofs.Texts.{end-next, pair-written}
-use Rattle.output.proofs.lines.put_verdict.Statement.{statement}
-use Rattle.output.proofs.lines.put_verdict.Tie as tie
+use Rattle.lines.proofs.Texts.{end-next, pair-written}
+use Rattle.lines.proofs.put_verdict.Statement.{statement}
+use Rattle.lines.proofs.put_verdict.Tie as tie
 
 put-requires : tie.Need-put-requires
 put-requires c κs = search needs

@@ -11,7 +11,7 @@ use Rattle.records.specs.declared.answers.Verdict.{Verdict}
 use Rattle.records.specs.declared.answers.Verdict.the-variants.{Done, Member, NotMember, Refused}
 use Rattle.moves.specs.Logs.{moveSize}
 use Rattle.reduction.specs.declared.answers.Reduction.{Reduction}
-use Rattle.output.specs.Text.{bytesIn, decimal, yesOrNo}
+use Rattle.lines.specs.Text.{bytesIn, decimal, yesOrNo}
 
 -- a value with its name before it
 abbrev pub named : String → List ℕ → List ℕ

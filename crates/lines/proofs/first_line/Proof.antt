@@ -1,8 +1,8 @@
--- `output::lines::first_line` meets its contract.
+-- `lines::first_line` meets its contract.
 use borrow.Author.Needs.{needs}
-use Rattle.output.proofs.Texts.{line-end, line-written}
-use Rattle.output.proofs.lines.first_line.Statement.{statement}
-use Rattle.output.proofs.lines.first_line.Tie as tie
+use Rattle.lines.proofs.Texts.{line-end, line-written}
+use Rattle.lines.proofs.first_line.Statement.{statement}
+use Rattle.lines.proofs.first_line.Tie as tie
 
 is-member-requires : tie.Need-is-member-requires
 is-member-requires c κs = search needs

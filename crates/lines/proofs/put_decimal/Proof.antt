@@ -1,8 +1,8 @@
--- `output::lines::put_decimal` meets its contract.
+-- `lines::put_decimal` meets its contract.
 use borrow.Author.Needs.{needs}
-use Rattle.output.proofs.Texts.{decimal-end, decimal-written, digits-fit, digits-most}
-use Rattle.output.proofs.lines.put_decimal.Statement.{statement}
-use Rattle.output.proofs.lines.put_decimal.Tie as tie
+use Rattle.lines.proofs.Texts.{decimal-end, decimal-written, digits-fit, digits-most}
+use Rattle.lines.proofs.put_decimal.Statement.{statement}
+use Rattle.lines.proofs.put_decimal.Tie as tie
 
 decimal-requires : tie.Need-decimal-requires
 decimal-requires c κs = search needs

@@ -21,8 +21,8 @@ use Rattle.records.specs.declared.answers.Verdict.{Verdict}
 use Rattle.records.specs.declared.answers.Verdict.the-variants.{Refused}
 use Rattle.systems.proofs.Logic.{bool-cases}
 use Rattle.reduction.specs.declared.answers.Reduction.{Reduction}
-use Rattle.output.specs.Lines.{firstLine, isMember, lineFeed, named, refusalIn}
-use Rattle.output.specs.Text.{bytesIn, decimal, digitsWithin, yesOrNo}
+use Rattle.lines.specs.Lines.{firstLine, isMember, lineFeed, named, refusalIn}
+use Rattle.lines.specs.Text.{bytesIn, decimal, digitsWithin, yesOrNo}
 
 -- bytes written after others
 module _ (a b out : List ℕ) (at : ℕ) (inside : at ≤ length out) where

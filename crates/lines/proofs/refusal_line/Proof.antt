@@ -1,9 +1,9 @@
--- `output::lines::refusal_line` meets its contract.
+-- `lines::refusal_line` meets its contract.
 use borrow.Author.Needs.{needs}
-use Rattle.output.specs.Lines.{refusalLine}
-use Rattle.output.proofs.Texts.{three-end, three-written}
-use Rattle.output.proofs.lines.refusal_line.Statement.{statement}
-use Rattle.output.proofs.lines.refusal_line.Tie as tie
+use Rattle.lines.specs.Lines.{refusalLine}
+use Rattle.lines.proofs.Texts.{three-end, three-written}
+use Rattle.lines.proofs.refusal_line.Statement.{statement}
+use Rattle.lines.proofs.refusal_line.Tie as tie
 
 slice-aggregate-put-number : tie.Need-slice-aggregate-put-number
 slice-aggregate-put-number c = search needs

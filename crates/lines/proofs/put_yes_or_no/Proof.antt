@@ -1,8 +1,8 @@
--- `output::lines::put_yes_or_no` meets its contract.
+-- `lines::put_yes_or_no` meets its contract.
 use borrow.Author.Needs.{needs}
-use Rattle.output.proofs.Texts.{no-end, no-written, yes-end, yes-written}
-use Rattle.output.proofs.lines.put_yes_or_no.Statement.{statement}
-use Rattle.output.proofs.lines.put_yes_or_no.Tie as tie
+use Rattle.lines.proofs.Texts.{no-end, no-written, yes-end, yes-written}
+use Rattle.lines.proofs.put_yes_or_no.Statement.{statement}
+use Rattle.lines.proofs.put_yes_or_no.Tie as tie
 
 slice-aggregate-put : tie.Need-slice-aggregate-put
 slice-aggregate-put c = search needs

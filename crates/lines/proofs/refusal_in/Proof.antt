@@ -1,8 +1,8 @@
--- `output::lines::refusal_in` meets its contract.
+-- `lines::refusal_in` meets its contract.
 use borrow.Author.Needs.{needs}
-use Rattle.output.proofs.Texts.{refused-in}
-use Rattle.output.proofs.lines.refusal_in.Statement.{statement}
-use Rattle.output.proofs.lines.refusal_in.Tie as tie
+use Rattle.lines.proofs.Texts.{refused-in}
+use Rattle.lines.proofs.refusal_in.Statement.{statement}
+use Rattle.lines.proofs.refusal_in.Tie as tie
 
 enum-told : tie.Need-enum-told
 enum-told c = search needs
