@@ -1,4 +1,5 @@
--- What is kept and counted of the program's input: "Of its input the program keeps the first 1,088 bytes .. and counts them all".
+-- What is kept and counted of the program's input, which comes in parts: "Input of every length is read to its end; the first 1,088 bytes are
+-- all that is kept."
 use Prim.Native.Nat.{_%_, _+_, _-_, _<_, min, ℕ}
 use mathlib.Core.Bool.{cond}
 use mathlib.Core.List.{List}
@@ -12,7 +13,8 @@ use Rattle.words.specs.Buffers.{writtenAt}
 unfoldable pub counted : ℕ → ℕ
 counted n = cond (leb n 1088) n (1152 + n % 64)
 
--- a buffer after the next bytes of an input of which so many came before: they go after those, up to byte 1,088 and as far as there is room
+-- the buffer after the next part of an input of which so many bytes came before: it goes after those, up to 1,088 bytes and as far as there
+-- is room
 abbrev pub keptAfter : List ℕ → List ℕ → ℕ → List ℕ
 keptAfter next kept size = writtenAt size (take (min 1088 (length kept) - size) next) kept
 
@@ -20,13 +22,13 @@ keptAfter next kept size = writtenAt size (take (min 1088 (length kept) - size) 
 abbrev pub CountOf : ℕ → ℕ → Type 0
 CountOf n size = (size ≡ n) ⊎ ((1088 < size) × (1088 < n) × (size % 64 ≡ n % 64))
 
--- what is known of an input from the bytes kept and the count
+-- what the bytes kept and the count tell of an input
 pub record Holds (input kept : List ℕ) (size : ℕ) : Type 0 where
   -- the kept bytes are its first ones, up to 1,088 and as far as there is room
   pub first : (i : ℕ) → i < length input → i < length kept → i < 1088 → getD kept i 0 ≡ getD input i 0
   pub count : CountOf (length input) size
 
--- and that there is such an input
+-- they tell of some input
 pub record ReadInput (kept : List ℕ) (size : ℕ) : Type 0 where
   pub input : List ℕ
   pub holds : Holds input kept size

@@ -24,7 +24,7 @@ lineFeed = 10 ∷ []
 unfoldable pub refusalLine : Refusal → List ℕ
 refusalLine f = named "refused " (decimal (f .number)) ++ named " at " (decimal (f .place)) ++ lineFeed
 
--- what a verdict refuses
+-- the refusal that a verdict carries
 abbrev pub refusalIn : Verdict → Checked
 refusalIn Done = Fine
 refusalIn Member = Fine
@@ -52,7 +52,7 @@ abbrev pub answerLines : ℕ → Reduction → List ℕ → List ℕ → List �
 answerLines n answer words log product =
     firstLine answer ++ take (n * 64) words ++ take (answer .moves * moveSize) log ++ cond (isMember (answer .verdict)) (take 64 product) []
 
--- the line of a refusal, and otherwise other lines
+-- "On a refusal it prints one line only .. Otherwise it prints" what a test or an answer that refuses nothing leads to
 abbrev pub linesAfter : Checked → List ℕ → List ℕ
 linesAfter Fine lines = lines
 linesAfter (Failed f) lines = refusalLine f

@@ -12,12 +12,12 @@ abbrev pub bytesIn : String → List ℕ
 bytesIn no-text = []
 bytesIn (c then s) = code c ∷ bytesIn s
 
--- how many decimal digits a number has, counting at most so many after the first
+-- how many decimal digits a number has: one, and at most so many more
 abbrev pub digitsWithin : ℕ → ℕ → ℕ
 digitsWithin zero n = 1
 digitsWithin (suc most) n = cond (ltb n 10) 1 (suc (digitsWithin most (n / 10)))
 
--- a number in decimal digits, with no more of them than it needs; those of 64 bits have at most 20
+-- a number in decimal digits, as few as hold it; a number of 64 bits has at most 20
 unfoldable pub decimal : ℕ → List ℕ
 decimal n = digits 10 (digitsWithin 19 n) n
 

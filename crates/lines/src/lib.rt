@@ -55,7 +55,7 @@ pub fn is_member(verdict: Verdict) -> bool
     }
 }
 
-// What a verdict refuses.
+// The refusal that a verdict carries.
 pub fn refusal_in(verdict: Verdict) -> Checked
     ensures { λ r. ⌜ r ≡ refusalIn verdict ⌝ }
 {

@@ -25,12 +25,11 @@ use Rattle.runs.specs.Runs.{roomFor, stopped}
 use Rattle.reduction.specs.Meaning.{EnoughMoves}
 use Rattle.reduction.specs.declared.answers.Reduction.{Reduction}
 use Rattle.membership.specs.Meaning.{Answered, EnoughRoom, MemberMeans}
-use Rattle.membership.specs.Membership.{memberLog, memberProduct, memberWords}
 use Rattle.membership.proofs.Meaning.{member-means, tests-pass}
 use Rattle.input.specs.Input.{CountOf, Holds}
 use Rattle.lines.specs.Lines.{refusalIn, refusalLine}
 use Rattle.output.specs.Meaning.{Decided, PrintMeans, WellFormed}
-use Rattle.output.specs.Output.{answer, answerOutput, givenSystem, givenTarget, inputRules, logLent, productLent, programOutput, wordsLent}
+use Rattle.output.specs.Output.{answer, answerOutput, givenSystem, givenTarget, inputRules, log, logLent, product, productLent, programOutput, words, wordsLent}
 use Rattle.output.specs.Printing.{Prints, outputFrom}
 use Rattle.output.specs.declared.answers.Printed.{Printed}
 use Rattle.output.specs.declared.answers.Printed.the-variants.{Whole}
@@ -106,17 +105,8 @@ module _ (input : List ℕ) (formed : WellFormed input) where
   product-fits : 64 ≤ length productLent
   product-fits = omega (arith, product-room)
 
-  abbrev words′ : List ℕ
-  words′ = memberWords (givenSystem input) (givenTarget input) wordsLent logLent productLent
-
-  abbrev log′ : List ℕ
-  log′ = memberLog (givenSystem input) (givenTarget input) wordsLent logLent productLent
-
-  abbrev product′ : List ℕ
-  product′ = memberProduct (givenSystem input) (givenTarget input) wordsLent logLent productLent
-
   means : MemberMeans (givenSystem input) (givenTarget input) wordsLent logLent productLent
-      (answer (givenSystem input) (givenTarget input)) words′ log′ product′
+      (answer input) (words input) (log input) (product input)
   means = member-means (givenSystem input) (givenTarget input) wordsLent logLent productLent _ _ _ _ refl refl refl refl
 
   room-enough : EnoughMoves (givenSystem input) 16384 → EnoughRoom (givenSystem input) (givenTarget input) wordsLent logLent productLent
@@ -136,11 +126,11 @@ module _ (input : List ℕ) (formed : WellFormed input) where
   output-decides enough =
       let told = means .answered (room-enough enough) in
       record {
-        answer = answer (givenSystem input) (givenTarget input);
-        W = take (slots (givenSystem input) * 64) words′;
-        L = take (answer (givenSystem input) (givenTarget input) .moves * moveSize) log′;
-        P = take 64 product′;
-        lines = rw (formed .sized, unrefused (answer (givenSystem input) (givenTarget input)) told) refl;
+        answer = answer input;
+        W = take (slots (givenSystem input) * 64) (words input);
+        L = take (answer input .moves * moveSize) (log input);
+        P = take 64 (product input);
+        lines = rw (formed .sized, unrefused (answer input) told) refl;
         answered = told;
         decides = means .decides told;
       }

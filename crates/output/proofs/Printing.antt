@@ -12,7 +12,7 @@ use lib.Seq.{drop-at, length-take-le, take-add, take-take}
 use borrow.Author.Tests.{eqb-false, eqb-true, le-leb, leb-true, lt-leb, not-true}
 use Rattle.words.specs.Alphabet.{bytes}
 use Rattle.words.specs.Buffers.{written, writtenAt}
-use Rattle.words.proofs.Buffers.{front-part, written-take}
+use Rattle.words.proofs.Buffers.{front-part, rest-part, written-take}
 use Rattle.systems.proofs.Logic.{bool-cases}
 use Rattle.systems.proofs.Neither.{moves-most}
 use Rattle.records.specs.Refusals.{_andThen_, must}
@@ -21,7 +21,7 @@ use Rattle.records.specs.declared.answers.Checked.the-variants.{Failed, Fine}
 use Rattle.records.specs.declared.answers.Refusal.{Refusal}
 use Rattle.records.specs.declared.answers.Verdict.{Verdict}
 use Rattle.records.proofs.Chains.{fine-first, fine-next, must-fine}
-use Rattle.slots.specs.Systems.{freelyReducedWords}
+use Rattle.slots.specs.Systems.{freelyReducedWords, slots}
 use Rattle.runs.specs.Runs.{roomFor}
 use Rattle.reduction.specs.Reduction.{reductionOf}
 use Rattle.reduction.specs.declared.answers.Reduction.{Reduction}
@@ -125,13 +125,41 @@ unfolding productLent
 product-lent = refl
 
 -- the lines of an answer from the buffers that the program lends
-pub answer-printed : (s t out : List ℕ) {a : Reduction} {w l p w′ l′ p′ : List ℕ} {r : Printed} {out′ : List ℕ}
-    → w ≡ wordsLent → l ≡ logLent → p ≡ productLent → a ≡ memberAnswer s t w l p
-    → w′ ≡ memberWords s t w l p → l′ ≡ memberLog s t w l p → p′ ≡ memberProduct s t w l p
-    → Prints (some (linesAfter (refusalIn (a .verdict)) (answerLines (length s / 64) a w′ l′ p′))) out r out′ → Prints (some (answerOutput s t)) out r out′
-unfolding answerOutput
-answer-printed s t out lentW lentL lentP answered wrote logged gave h =
-    rw (← lentW, ← lentL, ← lentP, ← answered, ← wrote, ← logged, ← gave) h
+linesFor : List ℕ → List ℕ → List ℕ
+linesFor s t =
+    linesAfter (refusalIn (memberAnswer s t wordsLent logLent productLent .verdict))
+    (answerLines (slots s) (memberAnswer s t wordsLent logLent productLent)
+    (memberWords s t wordsLent logLent productLent) (memberLog s t wordsLent logLent productLent) (memberProduct s t wordsLent logLent productLent))
+
+lines-for : (s t : List ℕ) (n : ℕ) {a : Reduction} {w l p w′ l′ p′ : List ℕ} → n ≡ slots s → w ≡ wordsLent → l ≡ logLent → p ≡ productLent
+    → a ≡ memberAnswer s t w l p → w′ ≡ memberWords s t w l p → l′ ≡ memberLog s t w l p → p′ ≡ memberProduct s t w l p
+    → linesAfter (refusalIn (a .verdict)) (answerLines n a w′ l′ p′) ≡ linesFor s t
+unfolding linesFor
+lines-for s t n e lentW lentL lentP answered wrote logged gave = rw (answered, wrote, logged, gave, e, lentW, lentL, lentP) refl
+
+module _ (records out : List ℕ) (least : 64 ≤ length records) where
+  abbrev systemPart : List ℕ
+  systemPart = take (length records - 64 - 0) records
+
+  abbrev targetPart : List ℕ
+  targetPart = take (length records - (length records - 64)) (drop (length records - 64) records)
+
+  parts-slots : (length records - 64) / 64 ≡ slots systemPart
+  parts-slots = ap (λ (n : ℕ). n / 64) (sym (ap length (front-part records (length records - 64)) ∙ length-take-le (length records - 64) records (omega arith)))
+
+  parts-lines : linesFor systemPart targetPart ≡ answerOutput records
+  unfolding answerOutput linesFor
+  parts-lines =
+      ap (λ (s : List ℕ). linesFor s targetPart) (front-part records (length records - 64))
+      ∙ ap (linesFor (givenSystem records)) (rest-part records (length records - 64))
+
+  pub answer-printed : {a : Reduction} {w l p w′ l′ p′ : List ℕ} {r : Printed} {out′ : List ℕ}
+      → w ≡ wordsLent → l ≡ logLent → p ≡ productLent → a ≡ memberAnswer systemPart targetPart w l p
+      → w′ ≡ memberWords systemPart targetPart w l p → l′ ≡ memberLog systemPart targetPart w l p → p′ ≡ memberProduct systemPart targetPart w l p
+      → Prints (some (linesAfter (refusalIn (a .verdict)) (answerLines ((length records - 64) / 64) a w′ l′ p′))) out r out′
+      → Prints (some (answerOutput records)) out r out′
+  answer-printed lentW lentL lentP answered wrote logged gave h =
+      prints-as (ap some (lines-for systemPart targetPart _ parts-slots lentW lentL lentP answered wrote logged gave ∙ parts-lines)) h
 
 -- a length that passes is that of a target and of at most 16 records before it
 module _ (size : ℕ) (passed : inputRules size ≡ Fine) where
@@ -149,9 +177,6 @@ module _ (size : ℕ) (passed : inputRules size ≡ Fine) where
   pub size-most : size ≤ 1088
   size-most = leb-true _ _ (must-fine _ 2 0 (fine-next (must (eqb (size % 64) 0) 1 0) _ later))
 
-  pub system-short : (kept : List ℕ) → length (take (size - 64 - 0) kept) ≤ 1024
-  system-short kept = omega (arith, length-take (size - 64 - 0) kept, size-most)
-
   -- fewer bytes were kept, and all were
   pub kept-missing : (kept out : List ℕ) → length kept < size → Prints (outputFrom kept size) out Missing out
   unfolding outputFrom
@@ -163,23 +188,18 @@ module _ (size : ℕ) (passed : inputRules size ≡ Fine) where
     kept-length : length (take size kept) ≡ size
     kept-length = length-take-le size kept all
 
-    kept-system : givenSystem (take size kept) ≡ take (size - 64 - 0) kept
-    kept-system = rw kept-length (take-take (size - 64) size kept (omega arith) ∙ sym (front-part kept (size - 64)))
+    pub part-least : 64 ≤ length (take (size - 0) kept)
+    part-least = rw (front-part kept size, kept-length) size-least
 
-    kept-target : givenTarget (take size kept) ≡ take (size - (size - 64)) (drop (size - 64) kept)
-    kept-target =
-        let back : size ≡ size - 64 + (size - (size - 64)) = omega arith in
-        let cut : take size kept ≡ take (size - 64) kept ++ take (size - (size - 64)) (drop (size - 64) kept) =
-        ap (λ (k : ℕ). take k kept) back ∙ take-add (size - 64) (size - (size - 64)) kept in
-        rw (kept-length, cut) (drop-at (take (size - 64) kept) _ (size - 64) (length-take-le (size - 64) kept (omega arith)))
+    pub part-most : length (take (size - 0) kept) ≤ 1088
+    part-most = rw (front-part kept size, kept-length) size-most
 
-    pub kept-printed : {r : Printed} {out′ : List ℕ}
-        → Prints (some (answerOutput (take (size - 64 - 0) kept) (take (size - (size - 64)) (drop (size - 64) kept)))) out r out′
+    pub kept-printed : {r : Printed} {out′ : List ℕ} → Prints (some (answerOutput (take (size - 0) kept))) out r out′
         → Prints (outputFrom kept size) out r out′
     unfolding outputFrom programOutput
     kept-printed h =
-        let whole : some (answerOutput (take (size - 64 - 0) kept) (take (size - (size - 64)) (drop (size - 64) kept))) ≡ outputFrom kept size =
-        rw (le-leb size (length kept) all, ap inputRules kept-length, passed, kept-system, kept-target) refl in
+        let whole : some (answerOutput (take (size - 0) kept)) ≡ outputFrom kept size =
+        rw (le-leb size (length kept) all, ap inputRules kept-length, passed, front-part kept size) refl in
         prints-as whole h
 
 -- a refusal of the length

@@ -22,7 +22,7 @@ givenTarget input = drop (length input - 64) input
 unfoldable pub inputRules : ℕ → Checked
 inputRules n = must (not (eqb n 0)) 6 0 andThen must (eqb (n % 64) 0) 1 0 andThen must (leb n 1088) 2 0
 
--- the buffers that the program lends to member: room for 16 records, for 16,384 moves and for one product
+-- the buffers that the program lends to member, with room for 16 records, for the moves and for a product: "Its log buffer holds 16,384 moves."
 unfoldable pub wordsLent : List ℕ
 wordsLent = replicate 1024 0
 
@@ -32,17 +32,23 @@ logLent = replicate 65536 0
 unfoldable pub productLent : List ℕ
 productLent = replicate 64 0
 
--- what member answers to a system and a target, and what it leaves in those buffers
-module _ (s t : List ℕ) where
+-- what member answers to an input, and the lines of its answer and of what it leaves in those buffers
+module _ (input : List ℕ) where
   abbrev pub answer : Reduction
-  answer = memberAnswer s t wordsLent logLent productLent
+  answer = memberAnswer (givenSystem input) (givenTarget input) wordsLent logLent productLent
+
+  abbrev pub words : List ℕ
+  words = memberWords (givenSystem input) (givenTarget input) wordsLent logLent productLent
+
+  abbrev pub log : List ℕ
+  log = memberLog (givenSystem input) (givenTarget input) wordsLent logLent productLent
+
+  abbrev pub product : List ℕ
+  product = memberProduct (givenSystem input) (givenTarget input) wordsLent logLent productLent
 
   unfoldable pub answerOutput : List ℕ
-  answerOutput =
-      linesAfter (refusalIn (answer .verdict))
-      (answerLines (slots s) answer
-      (memberWords s t wordsLent logLent productLent) (memberLog s t wordsLent logLent productLent) (memberProduct s t wordsLent logLent productLent))
+  answerOutput = linesAfter (refusalIn (answer .verdict)) (answerLines (slots (givenSystem input)) answer words log product)
 
--- the whole output: a refusal of the length, and otherwise member's answer
+-- the whole output: the line of a refusal of the length, and otherwise the lines of member's answer
 unfoldable pub programOutput : List ℕ → List ℕ
-programOutput input = linesAfter (inputRules (length input)) (answerOutput (givenSystem input) (givenTarget input))
+programOutput input = linesAfter (inputRules (length input)) (answerOutput input)

@@ -72,7 +72,7 @@ fn check_input(size: usize) -> Checked
     Checked::Fine
 }
 
-// Prints what member answers to an input of which enough bytes were kept.
+// Prints the answer to an input whose length is not refused, where all of it was kept.
 fn print_kept(kept: &[u8], size: usize, out: &mut [u8]) -> Printed
     requires { ⌜ inputRules size ≡ Fine ⌝ }
     ensures { λ r. ⌜ Prints (outputFrom (now (kept .entry)) size) (now (out .entry)) r (now (out .exit)) ⌝ }
@@ -80,21 +80,26 @@ fn print_kept(kept: &[u8], size: usize, out: &mut [u8]) -> Printed
     if kept.len() < size {
         return Printed::Missing;
     }
-    let split = size - RECORD;
-    print_answer(&kept[0..split], &kept[split..size], out)
+    print_answer(&kept[0..size], out)
 }
 
-// Asks member about a system and a target, and prints its answer.
-fn print_answer(system: &[u8], target: &[u8], out: &mut [u8]) -> Printed
-    requires { ⌜ length (now system) ≤ 1024 ⌝ }
-    ensures { λ r. ⌜ Prints (some (answerOutput (now (system .entry)) (now (target .entry)))) (now (out .entry)) r (now (out .exit)) ⌝ }
+// Asks member about the last record, with the earlier ones as the system, and prints its answer.
+fn print_answer(records: &[u8], out: &mut [u8]) -> Printed
+    requires { ⌜ (64 ≤ length (now records)) × (length (now records) ≤ 1088) ⌝ }
+    ensures { λ r. ⌜ Prints (some (answerOutput (now (records .entry)))) (now (out .entry)) r (now (out .exit)) ⌝ }
 {
     let mut words = [0u8; 1024];
     let mut log = [0u8; 65536];
     let mut product = [0u8; 64];
-    let answer = member(system, target, &mut words, &mut log, &mut product);
-    let n = system.len() / RECORD;
-    print_reduction(answer, n, &words, &log, &product, out)
+    let split = records.len() - RECORD;
+    let answer = member(
+        &records[0..split],
+        &records[split..],
+        &mut words,
+        &mut log,
+        &mut product,
+    );
+    print_reduction(answer, split / RECORD, &words, &log, &product, out)
 }
 
 // Prints an answer of member for so many slots: one line on a refusal, and otherwise the first line, the slots, the log and the product.

@@ -4,6 +4,27 @@ use Rattle.output.proofs.Printing.{answer-printed, log-lent, moves-fit,
 use Rattle.output.proofs.print_answer.Statement.{statement}
 use Rattle.output.proofs.print_answer.Tie as tie
 
+sub-split : tie.Need-sub-split
+sub-split c = search needs
+
+sub-member : tie.Need-sub-member
+sub-member c = search needs
+
+part-member-start : tie.Need-part-member-start
+part-member-start c = search needs
+
+part-member-end : tie.Need-part-member-end
+part-member-end c = search needs
+
+sub-member-2 : tie.Need-sub-member-2
+sub-member-2 c = search needs
+
+part-member-start-2 : tie.Need-part-member-start-2
+part-member-start-2 c = search needs
+
+part-member-end-2 : tie.Need-part-member-end-2
+part-member-end-2 c = search needs
+
 slice-aggregate-member : tie.Need-slice-aggregate-member
 slice-aggregate-member c = search needs
 
@@ -34,12 +55,19 @@ same-length c = search needs
 returns : tie.Need-returns
 returns c =
     let told = c .before .before .before .before .before .before .before .before .before .before .member .ensures in
-    answer-printed _ _ _ words-lent log-lent product-lent (told .0) (told .1 .0) (told .1 .1 .0) (told .1 .1 .1 .0) (c .before .before .print-reduction .ensures)
+    answer-printed _ _ (search needs) words-lent log-lent product-lent (told .0) (told .1 .0) (told .1 .1 .0) (told .1 .1 .1 .0) (c .before .before .print-reduction .ensures)
 
 pub print-answer-spec : {M : Type 1} → statement M
 print-answer-spec =
     tie.close
     (tie.spec
+    sub-split
+    sub-member
+    part-member-start
+    part-member-end
+    sub-member-2
+    part-member-start-2
+    part-member-end-2
     slice-aggregate-member
     slice-aggregate-member-2
     slice-aggregate-member-3

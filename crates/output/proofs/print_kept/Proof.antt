@@ -1,14 +1,11 @@
 -- `output::print_kept` meets its contract.
 use borrow.Author.Needs.{needs}
-use Rattle.output.proofs.Printing.{kept-missing, kept-printed, size-least, system-short}
+use Rattle.output.proofs.Printing.{kept-missing, kept-printed, part-least, part-most}
 use Rattle.output.proofs.print_kept.Statement.{statement}
 use Rattle.output.proofs.print_kept.Tie as tie
 
 returns : tie.Need-returns
 returns c = search (kept-missing, needs)
-
-sub-split : tie.Need-sub-split
-sub-split c = search (size-least, needs)
 
 sub-print-answer : tie.Need-sub-print-answer
 sub-print-answer c = search needs
@@ -19,17 +16,8 @@ part-print-answer-start c = search needs
 part-print-answer-end : tie.Need-part-print-answer-end
 part-print-answer-end c = search needs
 
-sub-print-answer-2 : tie.Need-sub-print-answer-2
-sub-print-answer-2 c = search needs
-
-part-print-answer-start-2 : tie.Need-part-print-answer-start-2
-part-print-answer-start-2 c = search needs
-
-part-print-answer-end-2 : tie.Need-part-print-answer-end-2
-part-print-answer-end-2 c = search needs
-
 print-answer-requires : tie.Need-print-answer-requires
-print-answer-requires c κs = search (system-short, needs)
+print-answer-requires c κs = (search (part-least, needs), search (part-most, needs))
 
 same-length : tie.Need-same-length
 same-length c = search needs
@@ -42,13 +30,9 @@ print-kept-spec =
     tie.close
     (tie.spec
     returns
-    sub-split
     sub-print-answer
     part-print-answer-start
     part-print-answer-end
-    sub-print-answer-2
-    part-print-answer-start-2
-    part-print-answer-end-2
     print-answer-requires
     same-length
     returns-2)
