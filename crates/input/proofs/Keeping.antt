@@ -1,12 +1,11 @@
--- What is kept and counted of an input that comes in pieces.
+-- What is kept and counted of an input that comes in parts.
 use Prim.Native.Nat.{_%_, _+_, _-_, _<_, _≤_, min, ℕ}
-use mathlib.Core.Bool.{false, true}
 use mathlib.Core.List.{List, [], _++_}
-use mathlib.Core.Logic.{_⊎_, inl, inr}
+use mathlib.Core.Logic.{inl, inr}
 use mathlib.Core.Path.{_∙_, _≡_, ap, refl, sym}
 use native.Mathlib.Omega.{arith}
 use lib.Dec.{leb}
-use lib.ListN.{drop, getD, length, length-append, length-drop, length-take, take, take-append-drop}
+use lib.ListN.{drop, getD, length, length-append, length-take, take, take-append-drop}
 use lib.Seq.{getD-append-add, getD-take, take-all, take-append-seam, length-take-le}
 use borrow.Author.Tests.{le-leb, leb-false, leb-true, lt-leb}
 use Rattle.words.specs.Buffers.{written}
@@ -33,9 +32,6 @@ counted-is n =
           inr (omega arith, long, omega arith)
     ]
 
-pub counted-told : (m n : ℕ) {a b r : ℕ} → a ≡ counted m → b ≡ counted n → r ≡ counted (a + b) → r ≡ counted (counted m + counted n)
-counted-told m n e f h = rw (h, e, f) refl
-
 -- a count of a count, and the sum of two
 count-again : (n a b : ℕ) → CountOf n a → CountOf a b → CountOf n b
 count-again n a b (inl e) (inl f) = inl (f ∙ e)
@@ -49,11 +45,18 @@ count-sum n a k b (inl e) (inr f) = inr (omega (arith, e, f), omega (arith, e, f
 count-sum n a k b (inr e) (inl f) = inr (omega (arith, e, f), omega (arith, e, f), omega (arith, e, f))
 count-sum n a k b (inr e) (inr f) = inr (omega (arith, e, f), omega (arith, e, f), omega (arith, e, f))
 
+-- all counts of a length are counted alike
+count-same : (n a : ℕ) → CountOf n a → counted a ≡ counted n
+count-same n a (inl e) = ap counted e
+count-same n a (inr e) = sym (counted-long a (e .0)) ∙ ap (λ (k : ℕ). 1152 + k) (e .2) ∙ counted-long n (e .1)
+
 -- so the count stays one when more bytes come
-count-next : (n size k : ℕ) → CountOf n size → CountOf (n + k) (counted (counted size + counted k))
-count-next n size k h =
-    let before : CountOf n (counted size) = count-again n size (counted size) h (counted-is size) in
-    count-again (n + k) (counted size + counted k) _ (count-sum n (counted size) k (counted k) before (counted-is k)) (counted-is (counted size + counted k))
+pub counted-told : (m n : ℕ) {a b r : ℕ} → a ≡ counted m → b ≡ counted n → r ≡ counted (a + b) → r ≡ counted (m + n)
+counted-told m n e f h =
+    rw (h, e, f) (count-same (m + n) (counted m + counted n) (count-sum m (counted m) n (counted n) (counted-is m) (counted-is n)))
+
+count-next : (n size k : ℕ) → CountOf n size → CountOf (n + k) (counted (size + k))
+count-next n size k h = count-again (n + k) (size + k) (counted (size + k)) (count-sum n size k k h (inl refl)) (counted-is (size + k))
 
 -- a byte of two lists, one after the other
 getD-front : (p q : List ℕ) (i : ℕ) → i < length p → getD (p ++ q) i 0 ≡ getD p i 0
@@ -124,7 +127,7 @@ module _ (next kept : List ℕ) (size : ℕ) (input : List ℕ) (before : Holds 
       ∙ sym (getD-front input next i there)
 
   pub keep-means : {kept′ : List ℕ} {size′ : ℕ} → length kept′ ≡ length kept → kept′ ≡ keptAfter next kept size
-      → size′ ≡ counted (counted size + counted (length next)) → Holds (input ++ next) kept′ size′
+      → size′ ≡ counted (size + length next) → Holds (input ++ next) kept′ size′
   keep-means same wrote told =
       record {
         first = λ i came inside short. ap (λ (l : List ℕ). getD l i 0) wrote ∙ kept-first i (before .count) came (rw same at inside) short;

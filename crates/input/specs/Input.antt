@@ -9,7 +9,7 @@ use lib.Dec.{leb}
 use lib.ListN.{getD, length, take}
 use Rattle.words.specs.Buffers.{writtenAt}
 
--- a length as it is counted: exact up to 1,088, the bytes of 17 records; over that a number over 1,088 with the same remainder by 64
+-- a length as it is counted: exact up to 1,088, the bytes of 17 records; over that 1,152 plus the remainder by 64, which is over 1,088 too
 unfoldable pub counted : ℕ → ℕ
 counted n = cond (leb n 1088) n (1152 + n % 64)
 
@@ -28,7 +28,7 @@ pub record Holds (input kept : List ℕ) (size : ℕ) : Type 0 where
   pub first : (i : ℕ) → i < length input → i < length kept → i < 1088 → getD kept i 0 ≡ getD input i 0
   pub count : CountOf (length input) size
 
--- they tell of some input
+-- they tell of some input: this says no more than that enough bytes are kept for the count
 pub record ReadInput (kept : List ℕ) (size : ℕ) : Type 0 where
   pub input : List ℕ
   pub holds : Holds input kept size

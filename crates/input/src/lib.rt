@@ -1,4 +1,4 @@
-// The program's input, which comes in pieces: its first bytes are kept, and all are counted.
+// The program's input, which comes in parts: its first bytes are kept, and all are counted.
 ghost use Prim.Native.Nat.{_+_, _≤_, ℕ};
 ghost use mathlib.Core.Path.{_≡_};
 ghost use mathlib.Core.List.{List, _++_};
@@ -10,9 +10,10 @@ use words::letters::copy_at;
 // The bytes of 17 records: a target, and the most that a system has.
 pub const LONGEST: usize = 1088;
 
-// Keeps the next bytes of an input of which so many came before, as far as there is room, and answers how many have come now.
+// Keeps the next part of an input of which so many bytes came before, up to 1,088 bytes and as far as there is room, and answers the count of
+// all that have come.
 pub fn keep(next: &[u8], kept: &mut [u8], size: usize) -> usize
-    ensures size { λ r. ⌜ r ≡ counted (counted size + counted (length (now (next .entry)))) ⌝ }
+    ensures size { λ r. ⌜ r ≡ counted (size + length (now (next .entry))) ⌝ }
     ensures kept { λ _. ⌜ now (kept .exit) ≡ keptAfter (now (next .entry)) (now (kept .entry)) size ⌝ }
     ensures means { λ r. ⌜ ((input : List ℕ) → Holds input (now (kept .entry)) size → Holds (input ++ now (next .entry)) (now (kept .exit)) r) ⌝ }
 {
@@ -22,7 +23,7 @@ pub fn keep(next: &[u8], kept: &mut [u8], size: usize) -> usize
     count(before + more)
 }
 
-// Copies the next bytes of an input after those that came before, up to byte 1,088 and as far as there is room.
+// Copies the next part of an input after the bytes that came before, up to 1,088 bytes and as far as there is room.
 fn keep_bytes(next: &[u8], kept: &mut [u8], size: usize)
     ensures { λ _. ⌜ now (kept .exit) ≡ keptAfter (now (next .entry)) (now (kept .entry)) size ⌝ }
 {

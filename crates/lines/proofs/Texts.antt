@@ -1,12 +1,12 @@
 -- Texts put one after the other into a buffer, and numbers in decimal digits.
 use Prim.Native.Nat.{_+_, _-_, _*_, _/_, _<_, _^_, _≤_, suc, zero, ℕ}
-use mathlib.Core.Bool.{Bool, cond, false, true}
-use mathlib.Core.List.{List, [], _++_, _∷_, append-assoc}
+use mathlib.Core.Bool.{Bool, false, true}
+use mathlib.Core.List.{List, _++_, append-assoc}
 use mathlib.Core.Logic.{inl, inr}
 use mathlib.Core.Path.{_∙_, _≡_, ap, refl, sym}
 use native.Mathlib.Nat.{one-le-pow, pow-le-pow-right, pow-suc}
 use native.Mathlib.Omega.{arith}
-use lib.Dec.{leb, ltb}
+use lib.Dec.{leb}
 use lib.ListN.{drop, length, length-append, length-take, take}
 use lib.Seq.{drop-at, drop-drop, length-take-le, take-at}
 use borrow.Author.Tests.{le-ltb, leb-false, leb-true, lt-ltb}

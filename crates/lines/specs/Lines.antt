@@ -31,7 +31,7 @@ refusalIn Member = Fine
 refusalIn NotMember = Fine
 refusalIn (Refused f) = Failed f
 
--- "whether the target is a member"
+-- "whether the target is a member"; 'done' is never member's verdict
 abbrev pub isMember : Verdict → Bool
 isMember Done = false
 isMember Member = true

@@ -12,7 +12,7 @@ use records::answers::Verdict;
 use reduction::answers::Reduction;
 use words::letters::copy_at;
 
-// The most bytes that a line has.
+// No first line and no line of a refusal has more bytes.
 pub const LINE: usize = 80;
 
 // The first line of an answer: the moves made, the rank, and yes or no for independent and for member.
@@ -24,10 +24,10 @@ pub fn first_line(answer: Reduction, line: &mut [u8]) -> usize
 {
     let verdict = answer.verdict;
     let member = is_member(verdict);
-    let first = put_number(b"moves ", answer.moves, line, 0);
-    let second = put_number(b" rank ", answer.rank, line, first);
-    let third = put_verdict(b" independent ", answer.independent, line, second);
-    let fourth = put_verdict(b" member ", member, line, third);
+    let first = put_named_number(b"moves ", answer.moves, line, 0);
+    let second = put_named_number(b" rank ", answer.rank, line, first);
+    let third = put_named_yes_or_no(b" independent ", answer.independent, line, second);
+    let fourth = put_named_yes_or_no(b" member ", member, line, third);
     put(b"\n", line, fourth)
 }
 
@@ -38,12 +38,12 @@ pub fn refusal_line(refusal: Refusal, line: &mut [u8]) -> usize
     ensures size { λ r. ⌜ r ≡ length (refusalLine refusal) ⌝ }
     ensures most { λ r. ⌜ r ≤ 80 ⌝ }
 {
-    let first = put_number(b"refused ", refusal.number as usize, line, 0);
-    let second = put_number(b" at ", refusal.place, line, first);
+    let first = put_named_number(b"refused ", refusal.number as usize, line, 0);
+    let second = put_named_number(b" at ", refusal.place, line, first);
     put(b"\n", line, second)
 }
 
-// Whether a verdict says member.
+// Whether a verdict says member; 'done', which member never answers, does not.
 pub fn is_member(verdict: Verdict) -> bool
     ensures { λ r. ⌜ r ≡ isMember verdict ⌝ }
 {
@@ -68,7 +68,7 @@ pub fn refusal_in(verdict: Verdict) -> Checked
 }
 
 // Puts a name and a number at a place of a buffer, and answers the place after them.
-fn put_number(name: &[u8], n: usize, out: &mut [u8], at: usize) -> usize
+fn put_named_number(name: &[u8], n: usize, out: &mut [u8], at: usize) -> usize
     requires { ⌜ at + length (now name) + 20 ≤ length (now out) ⌝ }
     ensures out { λ _. ⌜ now (out .exit) ≡ writtenAt at (now (name .entry) ++ decimal n) (now (out .entry)) ⌝ }
     ensures end { λ r. ⌜ r ≡ at + length (now (name .entry) ++ decimal n) ⌝ }
@@ -91,7 +91,7 @@ fn put_decimal(n: usize, out: &mut [u8], at: usize) -> usize
 }
 
 // Puts a name and yes or no at a place of a buffer, and answers the place after them.
-fn put_verdict(name: &[u8], yes: bool, out: &mut [u8], at: usize) -> usize
+fn put_named_yes_or_no(name: &[u8], yes: bool, out: &mut [u8], at: usize) -> usize
     requires { ⌜ at + length (now name) + 3 ≤ length (now out) ⌝ }
     ensures out { λ _. ⌜ now (out .exit) ≡ writtenAt at (now (name .entry) ++ yesOrNo yes) (now (out .entry)) ⌝ }
     ensures end { λ r. ⌜ r ≡ at + length (now (name .entry) ++ yesOrNo yes) ⌝ }

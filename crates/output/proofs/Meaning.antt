@@ -1,24 +1,20 @@
 -- What the printed bytes mean for the whole input: what is kept and counted of it tells its output, which decides.
-use Prim.Native.Nat.{_%_, _*_, _-_, _/_, _<_, _≤_, ℕ}
+use Prim.Native.Nat.{_%_, _*_, _-_, _<_, _≤_, ℕ}
 use mathlib.Core.Bool.{false, true}
 use mathlib.Core.List.{List}
 use mathlib.Core.Logic.{inl, inr}
-use mathlib.Core.Option.{none, some}
+use mathlib.Core.Option.{some}
 use mathlib.Core.Path.{_∙_, _≡_, ap, refl, sym}
 use native.Mathlib.Omega.{arith}
 use lib.Dec.{eqb, leb}
-use lib.ListN.{getD, length, length-replicate, length-take, take}
+use lib.ListN.{length, length-replicate, length-take, take}
 use lib.Seq.{ext-getD, getD-take, length-take-le}
 use borrow.Author.Tests.{le-leb, leb-false, leb-true, lt-leb, ne-eqb}
 use Rattle.words.specs.Alphabet.{bytes}
-use Rattle.words.specs.Buffers.{written}
 use Rattle.systems.specs.Rules.{next, runWithin}
 use Rattle.systems.proofs.Logic.{bool-cases, option-cases}
-use Rattle.records.specs.Refusals.{targetRules}
-use Rattle.records.specs.declared.answers.Checked.{Checked}
 use Rattle.records.specs.declared.answers.Checked.the-variants.{Failed, Fine}
 use Rattle.records.specs.declared.answers.Refusal.{Refusal}
-use Rattle.slots.specs.Refusals.{systemRules}
 use Rattle.slots.specs.Systems.{freelyReducedWords, slots}
 use Rattle.moves.specs.Logs.{moveSize}
 use Rattle.runs.specs.Runs.{roomFor, stopped}
@@ -29,11 +25,10 @@ use Rattle.membership.proofs.Meaning.{member-means, tests-pass}
 use Rattle.input.specs.Input.{CountOf, Holds}
 use Rattle.lines.specs.Lines.{refusalIn, refusalLine}
 use Rattle.output.specs.Meaning.{Decided, PrintMeans, WellFormed}
-use Rattle.output.specs.Output.{answer, answerOutput, givenSystem, givenTarget, inputRules, log, logLent, product, productLent, programOutput, words, wordsLent}
+use Rattle.output.specs.Output.{answer, answerOutput, givenSystem, givenTarget, inputRules, log, programLog, product, programProduct, programOutput, words, programWords}
 use Rattle.output.specs.Printing.{Prints, outputFrom}
 use Rattle.output.specs.declared.answers.Printed.{Printed}
-use Rattle.output.specs.declared.answers.Printed.the-variants.{Whole}
-use Rattle.output.proofs.Printing.{refused-from, size-least, size-most}
+use Rattle.output.proofs.Printing.{refused-from, size-most}
 
 -- a length over 1,088 is refused, by what its count tells
 long-refused : (n : ℕ) → 1088 < n → (f : Refusal) × (inputRules n ≡ Failed f)
@@ -81,16 +76,16 @@ module _ (input kept : List ℕ) (size : ℕ) (holds : Holds input kept size) (r
   held-output = output-of (holds .count)
 
 -- the buffers that the program lends have room
-words-room : length wordsLent ≡ 1024
-unfolding wordsLent
+words-room : length programWords ≡ 1024
+unfolding programWords
 words-room = length-replicate {A = ℕ} 1024 0
 
-log-room : length logLent ≡ 65536
-unfolding logLent
+log-room : length programLog ≡ 65536
+unfolding programLog
 log-room = length-replicate {A = ℕ} 65536 0
 
-product-room : length productLent ≡ 64
-unfolding productLent
+product-room : length programProduct ≡ 64
+unfolding programProduct
 product-room = length-replicate {A = ℕ} 64 0
 
 unrefused : (a : Reduction) → Answered a → refusalIn (a .verdict) ≡ Fine
@@ -99,17 +94,17 @@ unrefused a (inr e) = rw e refl
 
 -- a well-formed input is answered, or its moves are too many
 module _ (input : List ℕ) (formed : WellFormed input) where
-  words-fit : slots (givenSystem input) * 64 ≤ length wordsLent
+  words-fit : slots (givenSystem input) * 64 ≤ length programWords
   words-fit = omega (arith, words-room, length-take (length input - 64) input, size-most (length input) (formed .sized))
 
-  product-fits : 64 ≤ length productLent
+  product-fits : 64 ≤ length programProduct
   product-fits = omega (arith, product-room)
 
-  means : MemberMeans (givenSystem input) (givenTarget input) wordsLent logLent productLent
+  means : MemberMeans (givenSystem input) (givenTarget input) programWords programLog programProduct
       (answer input) (words input) (log input) (product input)
-  means = member-means (givenSystem input) (givenTarget input) wordsLent logLent productLent _ _ _ _ refl refl refl refl
+  means = member-means (givenSystem input) (givenTarget input) programWords programLog programProduct _ _ _ _ refl refl refl refl
 
-  room-enough : EnoughMoves (givenSystem input) 16384 → EnoughRoom (givenSystem input) (givenTarget input) wordsLent logLent productLent
+  room-enough : EnoughMoves (givenSystem input) 16384 → EnoughRoom (givenSystem input) (givenTarget input) programWords programLog programProduct
   room-enough enough =
       record {
         system = formed .system;
@@ -138,13 +133,13 @@ module _ (input : List ℕ) (formed : WellFormed input) where
   pub output-short : (EnoughMoves (givenSystem input) 16384 → ⊥) → programOutput input ≡ refusalLine (record { number = 13; place = 0 })
   unfolding programOutput answerOutput
   output-short more =
-      let room : roomFor logLent ≡ 16384 = rw log-room refl in
-      let over : stopped (runWithin bytes (roomFor logLent) (freelyReducedWords (givenSystem input))) ≡ false =
-      elim (option-cases (next bytes (runWithin bytes (roomFor logLent) (freelyReducedWords (givenSystem input))))) [
+      let room : roomFor programLog ≡ 16384 = rw log-room refl in
+      let over : stopped (runWithin bytes (roomFor programLog) (freelyReducedWords (givenSystem input))) ≡ false =
+      elim (option-cases (next bytes (runWithin bytes (roomFor programLog) (freelyReducedWords (givenSystem input))))) [
         | inl e ↦ absurd (more (rw (← room) e))
         | inr m ↦ rw (m .1) refl
       ] in
-      let tests = tests-pass (givenSystem input) (givenTarget input) (length wordsLent) (length productLent) (formed .system) (formed .target) words-fit product-fits in
+      let tests = tests-pass (givenSystem input) (givenTarget input) (length programWords) (length programProduct) (formed .system) (formed .target) words-fit product-fits in
       rw (formed .sized, tests, over) refl
 
 -- what was written means what is demanded of it

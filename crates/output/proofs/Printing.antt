@@ -7,8 +7,8 @@ use mathlib.Core.Option.{Option, none, some}
 use mathlib.Core.Path.{_∙_, _≡_, ap, refl, sym}
 use native.Mathlib.Omega.{arith}
 use lib.Dec.{eqb, leb}
-use lib.ListN.{drop, length, length-append, length-take, replicate, take}
-use lib.Seq.{drop-at, length-take-le, take-add, take-take}
+use lib.ListN.{drop, length, length-append, replicate, take}
+use lib.Seq.{length-take-le}
 use borrow.Author.Tests.{eqb-false, eqb-true, le-leb, leb-true, lt-leb, not-true}
 use Rattle.words.specs.Alphabet.{bytes}
 use Rattle.words.specs.Buffers.{written, writtenAt}
@@ -28,8 +28,8 @@ use Rattle.reduction.specs.declared.answers.Reduction.{Reduction}
 use Rattle.factoring.specs.TargetProduct.{isFound}
 use Rattle.membership.specs.Membership.{memberAnswer, memberChecked, memberFound, memberLog, memberProduct, memberWords, verdictOf}
 use Rattle.lines.specs.Lines.{answerLines, firstLine, isMember, linesAfter, refusalIn, refusalLine}
-use Rattle.output.specs.Output.{answerOutput, givenSystem, givenTarget, inputRules, logLent, productLent, programOutput, wordsLent}
-use Rattle.output.specs.Printing.{Prints, lengthOutput, outputFrom, printedAnswer, printedBuffer}
+use Rattle.output.specs.Output.{answerOutput, givenSystem, inputRules, programLog, programProduct, programOutput, programWords}
+use Rattle.output.specs.Printing.{Prints, outputFrom}
 use Rattle.output.specs.declared.answers.Printed.{Printed}
 use Rattle.output.specs.declared.answers.Printed.the-variants.{Missing, Short, Whole}
 use Rattle.lines.proofs.Texts.{four-written}
@@ -112,26 +112,26 @@ moves-fit s t words log product log′ {a = a} e same =
     omega arith
 
 -- the buffers that the program lends
-pub words-lent : replicate 1024 0 ≡ wordsLent
-unfolding wordsLent
+pub words-lent : replicate 1024 0 ≡ programWords
+unfolding programWords
 words-lent = refl
 
-pub log-lent : replicate 65536 0 ≡ logLent
-unfolding logLent
+pub log-lent : replicate 65536 0 ≡ programLog
+unfolding programLog
 log-lent = refl
 
-pub product-lent : replicate 64 0 ≡ productLent
-unfolding productLent
+pub product-lent : replicate 64 0 ≡ programProduct
+unfolding programProduct
 product-lent = refl
 
 -- the lines of an answer from the buffers that the program lends
 linesFor : List ℕ → List ℕ → List ℕ
 linesFor s t =
-    linesAfter (refusalIn (memberAnswer s t wordsLent logLent productLent .verdict))
-    (answerLines (slots s) (memberAnswer s t wordsLent logLent productLent)
-    (memberWords s t wordsLent logLent productLent) (memberLog s t wordsLent logLent productLent) (memberProduct s t wordsLent logLent productLent))
+    linesAfter (refusalIn (memberAnswer s t programWords programLog programProduct .verdict))
+    (answerLines (slots s) (memberAnswer s t programWords programLog programProduct)
+    (memberWords s t programWords programLog programProduct) (memberLog s t programWords programLog programProduct) (memberProduct s t programWords programLog programProduct))
 
-lines-for : (s t : List ℕ) (n : ℕ) {a : Reduction} {w l p w′ l′ p′ : List ℕ} → n ≡ slots s → w ≡ wordsLent → l ≡ logLent → p ≡ productLent
+lines-for : (s t : List ℕ) (n : ℕ) {a : Reduction} {w l p w′ l′ p′ : List ℕ} → n ≡ slots s → w ≡ programWords → l ≡ programLog → p ≡ programProduct
     → a ≡ memberAnswer s t w l p → w′ ≡ memberWords s t w l p → l′ ≡ memberLog s t w l p → p′ ≡ memberProduct s t w l p
     → linesAfter (refusalIn (a .verdict)) (answerLines n a w′ l′ p′) ≡ linesFor s t
 unfolding linesFor
@@ -154,7 +154,7 @@ module _ (records out : List ℕ) (least : 64 ≤ length records) where
       ∙ ap (linesFor (givenSystem records)) (rest-part records (length records - 64))
 
   pub answer-printed : {a : Reduction} {w l p w′ l′ p′ : List ℕ} {r : Printed} {out′ : List ℕ}
-      → w ≡ wordsLent → l ≡ logLent → p ≡ productLent → a ≡ memberAnswer systemPart targetPart w l p
+      → w ≡ programWords → l ≡ programLog → p ≡ programProduct → a ≡ memberAnswer systemPart targetPart w l p
       → w′ ≡ memberWords systemPart targetPart w l p → l′ ≡ memberLog systemPart targetPart w l p → p′ ≡ memberProduct systemPart targetPart w l p
       → Prints (some (linesAfter (refusalIn (a .verdict)) (answerLines ((length records - 64) / 64) a w′ l′ p′))) out r out′
       → Prints (some (answerOutput records)) out r out′

@@ -23,28 +23,29 @@ unfoldable pub inputRules : ℕ → Checked
 inputRules n = must (not (eqb n 0)) 6 0 andThen must (eqb (n % 64) 0) 1 0 andThen must (leb n 1088) 2 0
 
 -- the buffers that the program lends to member, with room for 16 records, for the moves and for a product: "Its log buffer holds 16,384 moves."
-unfoldable pub wordsLent : List ℕ
-wordsLent = replicate 1024 0
+-- None of these zeros is printed.
+unfoldable pub programWords : List ℕ
+programWords = replicate 1024 0
 
-unfoldable pub logLent : List ℕ
-logLent = replicate 65536 0
+unfoldable pub programLog : List ℕ
+programLog = replicate 65536 0
 
-unfoldable pub productLent : List ℕ
-productLent = replicate 64 0
+unfoldable pub programProduct : List ℕ
+programProduct = replicate 64 0
 
 -- what member answers to an input, and the lines of its answer and of what it leaves in those buffers
 module _ (input : List ℕ) where
   abbrev pub answer : Reduction
-  answer = memberAnswer (givenSystem input) (givenTarget input) wordsLent logLent productLent
+  answer = memberAnswer (givenSystem input) (givenTarget input) programWords programLog programProduct
 
   abbrev pub words : List ℕ
-  words = memberWords (givenSystem input) (givenTarget input) wordsLent logLent productLent
+  words = memberWords (givenSystem input) (givenTarget input) programWords programLog programProduct
 
   abbrev pub log : List ℕ
-  log = memberLog (givenSystem input) (givenTarget input) wordsLent logLent productLent
+  log = memberLog (givenSystem input) (givenTarget input) programWords programLog programProduct
 
   abbrev pub product : List ℕ
-  product = memberProduct (givenSystem input) (givenTarget input) wordsLent logLent productLent
+  product = memberProduct (givenSystem input) (givenTarget input) programWords programLog programProduct
 
   unfoldable pub answerOutput : List ℕ
   answerOutput = linesAfter (refusalIn (answer .verdict)) (answerLines (slots (givenSystem input)) answer words log product)

@@ -14,7 +14,7 @@ use Rattle.output.specs.Output.{inputRules, programOutput}
 use Rattle.output.specs.declared.answers.Printed.{Printed}
 use Rattle.output.specs.declared.answers.Printed.the-variants.{Missing, Short, Whole}
 
--- the output where no byte is known: a refusal of the length alone
+-- the output where fewer bytes were kept than the length says: a refusal of the length
 abbrev pub lengthOutput : Checked → Option (List ℕ)
 lengthOutput Fine = none
 lengthOutput (Failed f) = some (refusalLine f)

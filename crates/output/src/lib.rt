@@ -33,7 +33,7 @@ use reduction::answers::Reduction;
 
 pub mod answers;
 
-// Writes the program's output into a lent buffer, from the bytes kept of its input and the length of that.
+// Writes the program's output into a lent buffer, from the bytes kept of its input and the input's length as it was counted.
 pub fn print(kept: &[u8], size: usize, out: &mut [u8]) -> Printed
     ensures answer { λ r. ⌜ r ≡ printedAnswer (outputFrom (now (kept .entry)) size) (length (now (out .entry))) ⌝ }
     ensures out { λ _. ⌜ now (out .exit) ≡ printedBuffer (outputFrom (now (kept .entry)) size) (now (out .entry)) ⌝ }

@@ -9,7 +9,7 @@ use Rattle.slots.specs.Systems.{freelyReducedWords}
 use Rattle.systems.specs.Factoring.{leading}
 use Rattle.membership.specs.Membership.{memberTests}
 use Rattle.lines.specs.Lines.{firstLine, refusalLine}
-use Rattle.output.specs.Output.{answerOutput, inputRules, logLent, productLent, programOutput, wordsLent}
+use Rattle.output.specs.Output.{answerOutput, inputRules, programLog, programProduct, programOutput, programWords}
 use Rattle.lines.specs.Text.{decimal}
 use Rattle.sheets.specs.Sheets.{EachSays, sheets}
 
@@ -19,7 +19,7 @@ _and_ : {A B : Type 0} → A → B → A × B
 a and b = (a, b)
 
 pub sheets-hold : EachSays sheets
-unfolding flipByte inverse shortening halfEnd next leading recordRules lettersRule systemRules wordRoom freelyReducedWords systemRoom targetRules memberTests decimal refusalLine firstLine inputRules wordsLent logLent productLent answerOutput programOutput
+unfolding flipByte inverse shortening halfEnd next leading recordRules lettersRule systemRules wordRoom freelyReducedWords systemRoom targetRules memberTests decimal refusalLine firstLine inputRules programWords programLog programProduct answerOutput programOutput
 sheets-hold =
     (refl, refl)
     and (refl, refl)

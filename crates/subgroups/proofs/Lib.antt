@@ -1,2 +1,3 @@
--- Laws that the proof of main cites.
+-- Laws that the proofs of functions cite.
 pub mod Cases
+pub mod Parts

@@ -7,29 +7,29 @@ use Rattle.lines.proofs.first_line.Tie as tie
 is-member-requires : tie.Need-is-member-requires
 is-member-requires c κs = search needs
 
-slice-aggregate-put-number : tie.Need-slice-aggregate-put-number
-slice-aggregate-put-number c = search needs
+slice-aggregate-put-named-number : tie.Need-slice-aggregate-put-named-number
+slice-aggregate-put-named-number c = search needs
 
-put-number-requires : tie.Need-put-number-requires
-put-number-requires c κs = search needs
+put-named-number-requires : tie.Need-put-named-number-requires
+put-named-number-requires c κs = search needs
 
-slice-aggregate-put-number-2 : tie.Need-slice-aggregate-put-number-2
-slice-aggregate-put-number-2 c = search needs
+slice-aggregate-put-named-number-2 : tie.Need-slice-aggregate-put-named-number-2
+slice-aggregate-put-named-number-2 c = search needs
 
-put-number-requires-2 : tie.Need-put-number-requires-2
-put-number-requires-2 c κs = search needs
+put-named-number-requires-2 : tie.Need-put-named-number-requires-2
+put-named-number-requires-2 c κs = search needs
 
-slice-aggregate-put-verdict : tie.Need-slice-aggregate-put-verdict
-slice-aggregate-put-verdict c = search needs
+slice-aggregate-put-named-yes-or-no : tie.Need-slice-aggregate-put-named-yes-or-no
+slice-aggregate-put-named-yes-or-no c = search needs
 
-put-verdict-requires : tie.Need-put-verdict-requires
-put-verdict-requires c κs = search needs
+put-named-yes-or-no-requires : tie.Need-put-named-yes-or-no-requires
+put-named-yes-or-no-requires c κs = search needs
 
-slice-aggregate-put-verdict-2 : tie.Need-slice-aggregate-put-verdict-2
-slice-aggregate-put-verdict-2 c = search needs
+slice-aggregate-put-named-yes-or-no-2 : tie.Need-slice-aggregate-put-named-yes-or-no-2
+slice-aggregate-put-named-yes-or-no-2 c = search needs
 
-put-verdict-requires-2 : tie.Need-put-verdict-requires-2
-put-verdict-requires-2 c κs = search needs
+put-named-yes-or-no-requires-2 : tie.Need-put-named-yes-or-no-requires-2
+put-named-yes-or-no-requires-2 c κs = search needs
 
 slice-aggregate-put : tie.Need-slice-aggregate-put
 slice-aggregate-put c = search needs
@@ -48,14 +48,14 @@ first-line-spec =
     tie.close
     (tie.spec
     is-member-requires
-    slice-aggregate-put-number
-    put-number-requires
-    slice-aggregate-put-number-2
-    put-number-requires-2
-    slice-aggregate-put-verdict
-    put-verdict-requires
-    slice-aggregate-put-verdict-2
-    put-verdict-requires-2
+    slice-aggregate-put-named-number
+    put-named-number-requires
+    slice-aggregate-put-named-number-2
+    put-named-number-requires-2
+    slice-aggregate-put-named-yes-or-no
+    put-named-yes-or-no-requires
+    slice-aggregate-put-named-yes-or-no-2
+    put-named-yes-or-no-requires-2
     slice-aggregate-put
     put-requires
     same-length

@@ -5,20 +5,20 @@ use Rattle.lines.proofs.Texts.{three-end, three-written}
 use Rattle.lines.proofs.refusal_line.Statement.{statement}
 use Rattle.lines.proofs.refusal_line.Tie as tie
 
-slice-aggregate-put-number : tie.Need-slice-aggregate-put-number
-slice-aggregate-put-number c = search needs
+slice-aggregate-put-named-number : tie.Need-slice-aggregate-put-named-number
+slice-aggregate-put-named-number c = search needs
 
-cast-put-number : tie.Need-cast-put-number
-cast-put-number c = search needs
+cast-put-named-number : tie.Need-cast-put-named-number
+cast-put-named-number c = search needs
 
-put-number-requires : tie.Need-put-number-requires
-put-number-requires c κs = search needs
+put-named-number-requires : tie.Need-put-named-number-requires
+put-named-number-requires c κs = search needs
 
-slice-aggregate-put-number-2 : tie.Need-slice-aggregate-put-number-2
-slice-aggregate-put-number-2 c = search needs
+slice-aggregate-put-named-number-2 : tie.Need-slice-aggregate-put-named-number-2
+slice-aggregate-put-named-number-2 c = search needs
 
-put-number-requires-2 : tie.Need-put-number-requires-2
-put-number-requires-2 c κs = search needs
+put-named-number-requires-2 : tie.Need-put-named-number-requires-2
+put-named-number-requires-2 c κs = search needs
 
 slice-aggregate-put : tie.Need-slice-aggregate-put
 slice-aggregate-put c = search needs
@@ -37,11 +37,11 @@ pub refusal-line-spec : {M : Type 1} → statement M
 refusal-line-spec =
     tie.close
     (tie.spec
-    slice-aggregate-put-number
-    cast-put-number
-    put-number-requires
-    slice-aggregate-put-number-2
-    put-number-requires-2
+    slice-aggregate-put-named-number
+    cast-put-named-number
+    put-named-number-requires
+    slice-aggregate-put-named-number-2
+    put-named-number-requires-2
     slice-aggregate-put
     put-requires
     same-length

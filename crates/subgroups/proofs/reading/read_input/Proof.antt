@@ -16,41 +16,23 @@ abbrev μ-loop : tie.MeasureT-loop
 loop-holds : tie.Need-loop-holds Inv-loop μ-loop
 loop-holds c = search (nothing-read, needs)
 
-slice-aggregate-read : tie.Need-slice-aggregate-read Inv-loop μ-loop
-slice-aggregate-read c = search needs
+slice-aggregate-read-part : tie.Need-slice-aggregate-read-part Inv-loop μ-loop
+slice-aggregate-read-part c = search needs
 
-read-requires : tie.Need-read-requires Inv-loop μ-loop
-read-requires c κs = search needs
+read-part-requires : tie.Need-read-part-requires Inv-loop μ-loop
+read-part-requires c κs = search needs
 
 same-length : tie.Need-same-length Inv-loop μ-loop
 same-length c = search needs
 
 returns : tie.Need-returns Inv-loop μ-loop
-returns c = search needs
-
-slice-aggregate-count : tie.Need-slice-aggregate-count Inv-loop μ-loop
-slice-aggregate-count c = search needs
-
-count-requires : tie.Need-count-requires Inv-loop μ-loop
-count-requires c κs = search needs
+returns c = search (more-read, c .before .before .before .before .read-part .ensures .1 .1, needs)
 
 same-length-2 : tie.Need-same-length-2 Inv-loop μ-loop
 same-length-2 c = search needs
 
 returns-2 : tie.Need-returns-2 Inv-loop μ-loop
-returns-2 c = search needs
-
-sub-keep : tie.Need-sub-keep Inv-loop μ-loop
-sub-keep c = search needs
-
-part-keep-start : tie.Need-part-keep-start Inv-loop μ-loop
-part-keep-start c = search needs
-
-part-keep-end : tie.Need-part-keep-end Inv-loop μ-loop
-part-keep-end c = search needs
-
-keep-requires : tie.Need-keep-requires Inv-loop μ-loop
-keep-requires c κs = search needs
+returns-2 c = search (more-read, c .before .before .before .before .before .before .read-part .ensures .1 .1, needs)
 
 sub-turns : tie.Need-sub-turns Inv-loop μ-loop
 sub-turns c = search needs
@@ -59,7 +41,7 @@ loop-less : tie.Need-loop-less Inv-loop μ-loop
 loop-less c = search needs
 
 loop-again : tie.Need-loop-again Inv-loop μ-loop
-loop-again c = (search needs, search needs, search (more-read, c .before .before .keep .ensures .1 .1, needs))
+loop-again c = (search needs, search needs, search (more-read, c .before .before .before .before .before .before .read-part .ensures .1 .1, needs))
 
 same-length-3 : tie.Need-same-length-3 Inv-loop μ-loop
 same-length-3 c = search needs
@@ -74,18 +56,12 @@ read-input-spec =
     Inv-loop
     μ-loop
     loop-holds
-    slice-aggregate-read
-    read-requires
+    slice-aggregate-read-part
+    read-part-requires
     same-length
     returns
-    slice-aggregate-count
-    count-requires
     same-length-2
     returns-2
-    sub-keep
-    part-keep-start
-    part-keep-end
-    keep-requires
     sub-turns
     loop-less
     loop-again

@@ -1,8 +1,8 @@
--- `lines::put_verdict` meets its contract.
+-- `lines::put_named_yes_or_no` meets its contract.
 use borrow.Author.Needs.{needs}
 use Rattle.lines.proofs.Texts.{end-next, pair-written}
-use Rattle.lines.proofs.put_verdict.Statement.{statement}
-use Rattle.lines.proofs.put_verdict.Tie as tie
+use Rattle.lines.proofs.put_named_yes_or_no.Statement.{statement}
+use Rattle.lines.proofs.put_named_yes_or_no.Tie as tie
 
 put-requires : tie.Need-put-requires
 put-requires c κs = search needs
@@ -16,5 +16,5 @@ same-length c = search needs
 returns : tie.Need-returns
 returns c = (search (pair-written, needs), (search (end-next, needs), search needs))
 
-pub put-verdict-spec : {M : Type 1} → statement M
-put-verdict-spec = tie.close (tie.spec put-requires put-yes-or-no-requires same-length returns)
+pub put-named-yes-or-no-spec : {M : Type 1} → statement M
+put-named-yes-or-no-spec = tie.close (tie.spec put-requires put-yes-or-no-requires same-length returns)
