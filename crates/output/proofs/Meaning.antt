@@ -25,10 +25,10 @@ use Rattle.membership.proofs.Meaning.{member-means, tests-pass}
 use Rattle.input.specs.Input.{CountOf, Holds}
 use Rattle.lines.specs.Lines.{refusalIn, refusalLine}
 use Rattle.output.specs.Meaning.{Decided, PrintMeans, WellFormed}
-use Rattle.output.specs.Output.{answer, answerOutput, givenSystem, givenTarget, inputRules, log, programLog, product, programProduct, programOutput, words, programWords}
-use Rattle.output.specs.Printing.{Prints, outputFrom}
-use Rattle.output.specs.declared.answers.Printed.{Printed}
-use Rattle.output.proofs.Printing.{refused-from, size-most}
+use Rattle.output.specs.Output.{answer, answerOutput, givenSystem, givenTarget, inputRules, log, outputFrom, programLog, product, programProduct, programOutput, words, programWords}
+use Rattle.printing.specs.Printing.{Prints}
+use Rattle.printing.specs.declared.answers.Printed.{Printed}
+use Rattle.output.proofs.Asking.{refused-from, size-most}
 
 -- a length over 1,088 is refused, by what its count tells
 long-refused : (n : ℕ) → 1088 < n → (f : Refusal) × (inputRules n ≡ Failed f)

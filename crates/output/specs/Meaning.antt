@@ -13,8 +13,8 @@ use Rattle.reduction.specs.declared.answers.Reduction.{Reduction}
 use Rattle.membership.specs.Meaning.{Answered, Decides}
 use Rattle.lines.specs.Lines.{firstLine, isMember, refusalLine}
 use Rattle.output.specs.Output.{givenSystem, givenTarget, inputRules, programOutput}
-use Rattle.output.specs.declared.answers.Printed.{Printed}
-use Rattle.output.specs.declared.answers.Printed.the-variants.{Whole}
+use Rattle.printing.specs.declared.answers.Printed.{Printed}
+use Rattle.printing.specs.declared.answers.Printed.the-variants.{Whole}
 
 -- an input of 1 to 17 records, all well formed
 pub record WellFormed (input : List ℕ) : Type 0 where

@@ -1,15 +1,17 @@
 -- The program's whole output, from its whole input.
 use Prim.Native.Nat.{_%_, _-_, ℕ}
-use mathlib.Core.Bool.{not}
+use mathlib.Core.Bool.{cond, not}
 use mathlib.Core.List.{List}
+use mathlib.Core.Option.{Option, none, some}
 use lib.Dec.{eqb, leb}
 use lib.ListN.{drop, length, replicate, take}
 use Rattle.records.specs.Refusals.{_andThen_, must}
 use Rattle.records.specs.declared.answers.Checked.{Checked}
+use Rattle.records.specs.declared.answers.Checked.the-variants.{Failed, Fine}
 use Rattle.slots.specs.Systems.{slots}
 use Rattle.reduction.specs.declared.answers.Reduction.{Reduction}
 use Rattle.membership.specs.Membership.{memberAnswer, memberLog, memberProduct, memberWords}
-use Rattle.lines.specs.Lines.{answerLines, linesAfter, refusalIn}
+use Rattle.lines.specs.Lines.{answerLines, linesAfter, refusalIn, refusalLine}
 
 -- "The program takes the last record on its standard input as the target and the earlier ones as the system"
 abbrev pub givenSystem : List ℕ → List ℕ
@@ -53,3 +55,12 @@ module _ (input : List ℕ) where
 -- the whole output: the line of a refusal of the length, and otherwise the lines of member's answer
 unfoldable pub programOutput : List ℕ → List ℕ
 programOutput input = linesAfter (inputRules (length input)) (answerOutput input)
+
+-- the output where fewer bytes were kept than the length says: a refusal of the length
+abbrev pub lengthOutput : Checked → Option (List ℕ)
+lengthOutput Fine = none
+lengthOutput (Failed f) = some (refusalLine f)
+
+-- the output, from the bytes kept and the length of the input; none where the length is not refused and fewer bytes were kept
+unfoldable pub outputFrom : List ℕ → ℕ → Option (List ℕ)
+outputFrom kept size = cond (leb size (length kept)) (some (programOutput (take size kept))) (lengthOutput (inputRules size))

@@ -7,8 +7,8 @@ use lib.ListN.{length}
 use Rattle.input.specs.Input.{Holds, ReadInput}
 use Rattle.output.specs.Meaning.{PrintMeans}
 use Rattle.output.specs.Output.{programOutput}
-use Rattle.output.specs.declared.answers.Printed.{Printed}
-use Rattle.output.specs.declared.answers.Printed.the-variants.{Missing, Short, Whole}
+use Rattle.printing.specs.declared.answers.Printed.{Printed}
+use Rattle.printing.specs.declared.answers.Printed.the-variants.{Missing, Short, Whole}
 
 module _ (kept out : List ℕ) (size : ℕ) {printed : Printed} {out′ : List ℕ}
     (means : (input : List ℕ) → Holds input kept size → 1088 ≤ length kept → 66704 ≤ length out → PrintMeans input out printed out′)

@@ -4,9 +4,9 @@ mod reading;
 
 use crate::reading::read_input;
 use input::LONGEST;
-use output::answers::OUTPUT;
-use output::answers::Printed;
 use output::print;
+use printing::answers::OUTPUT;
+use printing::answers::Printed;
 
 fn main() {
     let mut kept = [0u8; LONGEST];

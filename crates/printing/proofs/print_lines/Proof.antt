@@ -1,8 +1,8 @@
--- `output::print_lines` meets its contract.
+-- `printing::print_lines` meets its contract.
 use borrow.Author.Needs.{needs}
-use Rattle.output.proofs.Printing.{lines-printed}
-use Rattle.output.proofs.print_lines.Statement.{statement}
-use Rattle.output.proofs.print_lines.Tie as tie
+use Rattle.printing.proofs.Printing.{lines-printed}
+use Rattle.printing.proofs.print_lines.Statement.{statement}
+use Rattle.printing.proofs.print_lines.Tie as tie
 
 slice-aggregate-first-line : tie.Need-slice-aggregate-first-line
 slice-aggregate-first-line c = search needs

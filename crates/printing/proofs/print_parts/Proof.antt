@@ -1,8 +1,8 @@
--- `output::print_parts` meets its contract.
+-- `printing::print_parts` meets its contract.
 use borrow.Author.Needs.{needs}
-use Rattle.output.proofs.Printing.{parts-short, parts-whole}
-use Rattle.output.proofs.print_parts.Statement.{statement}
-use Rattle.output.proofs.print_parts.Tie as tie
+use Rattle.printing.proofs.Printing.{parts-short, parts-whole}
+use Rattle.printing.proofs.print_parts.Statement.{statement}
+use Rattle.printing.proofs.print_parts.Tie as tie
 
 add-size : tie.Need-add-size
 add-size c = search needs

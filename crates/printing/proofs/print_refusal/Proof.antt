@@ -1,8 +1,8 @@
--- `output::print_refusal` meets its contract.
+-- `printing::print_refusal` meets its contract.
 use borrow.Author.Needs.{needs}
-use Rattle.output.proofs.Printing.{refusal-printed}
-use Rattle.output.proofs.print_refusal.Statement.{statement}
-use Rattle.output.proofs.print_refusal.Tie as tie
+use Rattle.printing.proofs.Printing.{refusal-printed}
+use Rattle.printing.proofs.print_refusal.Statement.{statement}
+use Rattle.printing.proofs.print_refusal.Tie as tie
 
 slice-aggregate-refusal-line : tie.Need-slice-aggregate-refusal-line
 slice-aggregate-refusal-line c = search needs

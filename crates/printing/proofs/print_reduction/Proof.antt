@@ -1,8 +1,8 @@
--- `output::print_reduction` meets its contract.
+-- `printing::print_reduction` meets its contract.
 use borrow.Author.Needs.{needs}
-use Rattle.output.proofs.Printing.{after-fine, after-refused}
-use Rattle.output.proofs.print_reduction.Statement.{statement}
-use Rattle.output.proofs.print_reduction.Tie as tie
+use Rattle.printing.proofs.Printing.{after-fine, after-refused}
+use Rattle.printing.proofs.print_reduction.Statement.{statement}
+use Rattle.printing.proofs.print_reduction.Tie as tie
 
 refusal-in-requires : tie.Need-refusal-in-requires
 refusal-in-requires c κs = search needs

@@ -5,23 +5,10 @@ use mathlib.Core.List.{List}
 use mathlib.Core.Option.{Option, none, some}
 use mathlib.Core.Path.{_≡_}
 use lib.Dec.{leb}
-use lib.ListN.{length, take}
+use lib.ListN.{length}
 use Rattle.words.specs.Buffers.{written}
-use Rattle.records.specs.declared.answers.Checked.{Checked}
-use Rattle.records.specs.declared.answers.Checked.the-variants.{Failed, Fine}
-use Rattle.lines.specs.Lines.{refusalLine}
-use Rattle.output.specs.Output.{inputRules, programOutput}
-use Rattle.output.specs.declared.answers.Printed.{Printed}
-use Rattle.output.specs.declared.answers.Printed.the-variants.{Missing, Short, Whole}
-
--- the output where fewer bytes were kept than the length says: a refusal of the length
-abbrev pub lengthOutput : Checked → Option (List ℕ)
-lengthOutput Fine = none
-lengthOutput (Failed f) = some (refusalLine f)
-
--- the output, from the bytes kept and the length of the input; none where the length is not refused and fewer bytes were kept
-unfoldable pub outputFrom : List ℕ → ℕ → Option (List ℕ)
-outputFrom kept size = cond (leb size (length kept)) (some (programOutput (take size kept))) (lengthOutput (inputRules size))
+use Rattle.printing.specs.declared.answers.Printed.{Printed}
+use Rattle.printing.specs.declared.answers.Printed.the-variants.{Missing, Short, Whole}
 
 -- an output is written where the lent buffer has room for all of it, and otherwise nothing is
 abbrev pub printedAnswer : Option (List ℕ) → ℕ → Printed
