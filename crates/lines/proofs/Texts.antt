@@ -1,6 +1,6 @@
 -- Texts put one after the other into a buffer, and numbers in decimal digits.
 use Prim.Native.Nat.{_+_, _-_, _*_, _/_, _<_, _^_, _≤_, suc, zero, ℕ}
-use mathlib.Core.Bool.{Bool, false, true}
+use mathlib.Core.Bool.{Bool}
 use mathlib.Core.List.{List, _++_, append-assoc}
 use mathlib.Core.Logic.{inl, inr}
 use mathlib.Core.Path.{_∙_, _≡_, ap, refl, sym}
@@ -22,7 +22,7 @@ use Rattle.records.specs.declared.answers.Verdict.the-variants.{Refused}
 use Rattle.systems.proofs.Logic.{bool-cases}
 use Rattle.reduction.specs.declared.answers.Reduction.{Reduction}
 use Rattle.lines.specs.Lines.{firstLine, isMember, lineFeed, named, refusalIn}
-use Rattle.lines.specs.Text.{bytesIn, decimal, digitsWithin, yesOrNo}
+use Rattle.lines.specs.Text.{decimal, digitsWithin, yesOrNo}
 
 -- bytes written after others
 module _ (a b out : List ℕ) (at : ℕ) (inside : at ≤ length out) where
@@ -85,20 +85,13 @@ module _ (a b c out : List ℕ) {end₁ end₂ : ℕ} {out₁ out₂ out₃ : Li
       pub five-end : {end₅ : ℕ} → end₅ ≡ end₄ + length e → end₅ ≡ length (a ++ b ++ c ++ d ++ e)
       five-end e₅ = omega (arith, four-end, length-append (a ++ b ++ c ++ d) e)
 
--- yes or no
-module _ (yes : Bool) (out : List ℕ) (at : ℕ) {out₁ : List ℕ} where
-  pub yes-written : yes ≡ true → out₁ ≡ writtenAt at (bytesIn "yes") out → out₁ ≡ writtenAt at (yesOrNo yes) out
-  yes-written h e = rw h e
+-- yes or no, whichever it is
+pub said-written : (a b : Bool) (out : List ℕ) (at : ℕ) {out₁ : List ℕ} → a ≡ b → out₁ ≡ writtenAt at (yesOrNo b) out
+    → out₁ ≡ writtenAt at (yesOrNo a) out
+said-written a b out at h e = rw h e
 
-  pub no-written : yes ≡ false → out₁ ≡ writtenAt at (bytesIn "no") out → out₁ ≡ writtenAt at (yesOrNo yes) out
-  no-written h e = rw h e
-
-module _ (yes : Bool) (at : ℕ) {end : ℕ} where
-  pub yes-end : yes ≡ true → end ≡ at + length (bytesIn "yes") → end ≡ at + length (yesOrNo yes)
-  yes-end h e = rw h e
-
-  pub no-end : yes ≡ false → end ≡ at + length (bytesIn "no") → end ≡ at + length (yesOrNo yes)
-  no-end h e = rw h e
+pub said-end : (a b : Bool) (at : ℕ) {end : ℕ} → a ≡ b → end ≡ at + length (yesOrNo b) → end ≡ at + length (yesOrNo a)
+said-end a b at h e = rw h e
 
 -- the fewest digits that hold a number are as many as are counted
 module _ (n k : ℕ) (h : Fewest 10 1 n (suc (suc k))) where

@@ -1,6 +1,6 @@
 -- `lines::put_yes_or_no` meets its contract.
 use borrow.Author.Needs.{needs}
-use Rattle.lines.proofs.Texts.{no-end, no-written, yes-end, yes-written}
+use Rattle.lines.proofs.Texts.{said-end, said-written}
 use Rattle.lines.proofs.put_yes_or_no.Statement.{statement}
 use Rattle.lines.proofs.put_yes_or_no.Tie as tie
 
@@ -20,13 +20,13 @@ same-length : tie.Need-same-length
 same-length c = search needs
 
 returns : tie.Need-returns
-returns c = (search (yes-written, needs), (search (yes-end, needs), search needs))
+returns c = (search (said-written, needs), (search (said-end, needs), search needs))
 
 same-length-2 : tie.Need-same-length-2
 same-length-2 c = search needs
 
 returns-2 : tie.Need-returns-2
-returns-2 c = (search (no-written, needs), (search (no-end, needs), search needs))
+returns-2 c = (search (said-written, needs), (search (said-end, needs), search needs))
 
 pub put-yes-or-no-spec : {M : Type 1} → statement M
 put-yes-or-no-spec =
