@@ -24,3 +24,5 @@ pub const PRODUCT_BUFFER_SHORT: u8 = 11;
 pub const WORD_TOO_LONG: u8 = 12;
 
 pub const LOG_BUFFER_SHORT: u8 = 13;
+
+pub const SYSTEM_NOT_REDUCED: u8 = 15;

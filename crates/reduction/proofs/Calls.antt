@@ -99,13 +99,17 @@ run-stored letters lengths out words n T same e = e ∙ ap (λ (U : List (List �
 pub system-size-told : (s : List ℕ) {x : Checked} → x ≡ systemRules s → x ≡ Fine → length s ≤ 1024
 system-size-told s e h = system-size s (sym e ∙ h)
 
+-- words to which the search finds no move
+pub found-stopped : (n : ℕ) (T : List (List ℕ)) (r : Found) {b : Bool} → FoundNext n T r → b ≡ isNone (foundMove r) → b ≡ stopped T
+found-stopped n T r told same = same ∙ ap isNone (told .found)
+
 -- test
 module _ (s : List ℕ) {x : Checked} (e : x ≡ systemRules s) where
   pub test-refused : {f : Refusal} {a : Tested} → x ≡ Failed f → a ≡ refusedTest x → a ≡ testAnswer s
   test-refused h told = told ∙ ap refusedTest h ∙ sym (ap (λ (c : Checked). testedOf c (freelyReducedWords s)) (sym e ∙ h))
 
-  pub test-given : (n : ℕ) (T : List (List ℕ)) (r : Found) {b : Bool} → x ≡ Fine → T ≡ freelyReducedWords s → FoundNext n T r
-      → b ≡ isNone (foundMove r) → _≡_ {A = Tested} (record { verdict = Done; reduced = b }) (testAnswer s)
-  test-given n T r h given told same =
-      (λ i. record { verdict = Done; reduced = (same ∙ ap isNone (told .found) ∙ ap stopped given) i })
+  pub test-given : (T : List (List ℕ)) {b : Bool} → x ≡ Fine → T ≡ freelyReducedWords s → b ≡ stopped T
+      → _≡_ {A = Tested} (record { verdict = Done; reduced = b }) (testAnswer s)
+  test-given T h given same =
+      (λ i. record { verdict = Done; reduced = (same ∙ ap stopped given) i })
       ∙ sym (ap (λ (c : Checked). testedOf c (freelyReducedWords s)) (sym e ∙ h))

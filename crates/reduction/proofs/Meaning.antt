@@ -69,7 +69,7 @@ tested-fine Fine S e = refl
 tested-fine (Failed f) S e = let z : _≡_ {A = ℕ} 0 1 = cc in absurd (omega arith)
 
 -- "neither rule applies" exactly to the freely reduced words that are reduced
-tested-means : (s : List ℕ) → (stopped (freelyReducedWords s) ≡ true) ↔ Reduced bytes (freelyReducedWords s)
+pub tested-means : (s : List ℕ) → (stopped (freelyReducedWords s) ≡ true) ↔ Reduced bytes (freelyReducedWords s)
 tested-means s =
     let law = next-none bytes byteLaws flipByte-noOwnInverse (freelyReducedWords s) (loaded-freelyReduced s) in
     (λ e. law .0 (stopped-none (freelyReducedWords s) e), λ r. none-stopped (freelyReducedWords s) (law .1 r))

@@ -1,5 +1,7 @@
 // Test: is a system, after free reduction of its words, reduced?
 ghost use mathlib.Core.Path.{_≡_};
+ghost use Rattle.slots.specs.Held.{Held, held};
+ghost use Rattle.runs.specs.Runs.{stopped};
 ghost use Rattle.reduction.specs.Meaning.{TestMeans};
 ghost use Rattle.reduction.specs.Reduction.{refusedTest, testAnswer};
 use crate::answers::Tested;
@@ -30,13 +32,21 @@ fn test_records(system: &[u8]) -> Tested
     let n = system.len() / RECORD;
     let mut letters = [0u8; 1024];
     let mut lengths = [0usize; 16];
-    let mut marks = [0u8; 256];
     load(system, &mut letters, &mut lengths);
-    let found = find_move(&letters, &lengths, n, 0, &mut marks);
     Tested {
         verdict: Verdict::Done,
-        reduced: is_nothing(found),
+        reduced: is_reduced(&letters, &lengths, n),
     }
+}
+
+// Whether words held in arrays are reduced: neither rule applies to them.
+pub fn is_reduced(letters: &[u8], lengths: &[usize], n: usize) -> bool
+    requires { ⌜ Held n (now letters) (now lengths) ⌝ }
+    ensures { λ r. ⌜ r ≡ stopped (held n (now (letters .entry)) (now (lengths .entry))) ⌝ }
+{
+    let mut marks = [0u8; 256];
+    let found = find_move(letters, lengths, n, 0, &mut marks);
+    is_nothing(found)
 }
 
 // The answer of a test that was refused.

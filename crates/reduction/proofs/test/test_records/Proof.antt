@@ -1,7 +1,6 @@
 -- `reduction::test::test_records` meets its contract.
 use borrow.Author.Needs.{needs}
 use Rattle.slots.proofs.Holding.{held-none}
-use Rattle.marks.proofs.Marking.{marked-none, settled-none}
 use Rattle.reduction.proofs.Calls.{system-size-told, test-given, test-refused}
 use Rattle.reduction.proofs.test.test_records.Statement.{statement}
 use Rattle.reduction.proofs.test.test_records.Tie as tie
@@ -30,21 +29,14 @@ slice-aggregate-load-2 c = search needs
 load-requires : tie.Need-load-requires
 load-requires c κs = search (system-size-told, held-none, needs)
 
-slice-aggregate-find-move : tie.Need-slice-aggregate-find-move
-slice-aggregate-find-move c = search needs
+slice-aggregate-is-reduced : tie.Need-slice-aggregate-is-reduced
+slice-aggregate-is-reduced c = search needs
 
-slice-aggregate-find-move-2 : tie.Need-slice-aggregate-find-move-2
-slice-aggregate-find-move-2 c = search needs
+slice-aggregate-is-reduced-2 : tie.Need-slice-aggregate-is-reduced-2
+slice-aggregate-is-reduced-2 c = search needs
 
-slice-aggregate-find-move-3 : tie.Need-slice-aggregate-find-move-3
-slice-aggregate-find-move-3 c = search needs
-
-find-move-requires : tie.Need-find-move-requires
-find-move-requires c κs =
-    (search needs, (search needs, (search needs, (search (marked-none, needs), search (settled-none, needs)))))
-
-is-nothing-requires : tie.Need-is-nothing-requires
-is-nothing-requires c κs = search needs
+is-reduced-requires : tie.Need-is-reduced-requires
+is-reduced-requires c κs = search needs
 
 returns-2 : tie.Need-returns-2
 returns-2 c = search (test-given, needs)
@@ -61,9 +53,7 @@ test-records-spec =
     slice-aggregate-load
     slice-aggregate-load-2
     load-requires
-    slice-aggregate-find-move
-    slice-aggregate-find-move-2
-    slice-aggregate-find-move-3
-    find-move-requires
-    is-nothing-requires
+    slice-aggregate-is-reduced
+    slice-aggregate-is-reduced-2
+    is-reduced-requires
     returns-2)
