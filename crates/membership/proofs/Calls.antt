@@ -1,25 +1,19 @@
--- The call member: what its tests leave to the code after them, and the verdict and the product from the words that the run leaves.
+-- The call member: what its tests tell once they are passed.
 use Prim.Native.Nat.{_*_, _/_, _≤_, ℕ}
-use mathlib.Core.Bool.{Bool}
 use mathlib.Core.List.{List}
-use mathlib.Core.Option.{Option}
-use mathlib.Core.Path.{_∙_, _≡_, ap, sym}
+use mathlib.Core.Path.{_∙_, _≡_, sym}
 use lib.Dec.{leb}
 use lib.ListN.{length}
 use borrow.Author.Tests.{leb-true}
-use Rattle.systems.specs.Products.{Factor}
 use Rattle.records.specs.Refusals.{_andThen_, must, targetRules}
 use Rattle.records.specs.declared.answers.Checked.{Checked}
 use Rattle.records.specs.declared.answers.Checked.the-variants.{Fine}
-use Rattle.records.specs.declared.answers.Verdict.{Verdict}
 use Rattle.records.proofs.Chains.{fine-first, fine-next, must-fine}
 use Rattle.records.proofs.Targets.{target-sized}
-use Rattle.slots.specs.Held.{held}
 use Rattle.slots.specs.Refusals.{systemRules, wordRoom}
 use Rattle.slots.specs.Systems.{slots}
 use Rattle.slots.proofs.Systems.{room-enough, system-size}
-use Rattle.factoring.specs.TargetProduct.{isFound, productAfter, productFor}
-use Rattle.membership.specs.Membership.{memberTests, verdictOf}
+use Rattle.membership.specs.Membership.{memberTests}
 
 -- what refusals 1 to 5, 6, 10 and 11 tell once they are passed
 module _ (s t : List ℕ) (room product : ℕ) where
@@ -52,16 +46,3 @@ module _ (s t : List ℕ) (room product : ℕ) where
 
     pub passed-product : 64 ≤ product
     passed-product = leb-true 64 product (must-fine _ 11 0 (fine-next (wordRoom (slots s * 64) room) _ past-target))
-
--- the verdict from what was found
-pub concluded : (o : Option (List Factor)) {found : Bool} {v : Verdict} → found ≡ isFound o → v ≡ verdictOf found → v ≡ verdictOf (isFound o)
-concluded o e told = told ∙ ap verdictOf e
-
--- the words held after the run, asked about the target
-module _ (T : List (List ℕ)) (letters lengths w : List ℕ) (n : ℕ) (told : held n letters lengths ≡ T) where
-  pub verdict-run : {v : Verdict} → v ≡ verdictOf (isFound (productFor (held n letters lengths) w)) → v ≡ verdictOf (isFound (productFor T w))
-  verdict-run e = e ∙ ap (λ (U : List (List ℕ)). verdictOf (isFound (productFor U w))) told
-
-  pub product-run : (out product : List ℕ) → out ≡ productAfter (productFor (held n letters lengths) w) product
-      → out ≡ productAfter (productFor T w) product
-  product-run out product e = e ∙ ap (λ (U : List (List ℕ)). productAfter (productFor U w) product) told

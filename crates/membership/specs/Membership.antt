@@ -1,6 +1,5 @@
 -- Member: "system and target in; all that reduce gives, with member or not, and for a member the product".
 use Prim.Native.Nat.{_*_, ℕ}
-use mathlib.Core.Bool.{Bool, false, true}
 use mathlib.Core.List.{List}
 use mathlib.Core.Option.{Option}
 use lib.Dec.{leb}
@@ -10,20 +9,14 @@ use Rattle.systems.specs.Products.{Factor}
 use Rattle.systems.specs.Rules.{runWithin}
 use Rattle.records.specs.Answers.{onFine}
 use Rattle.records.specs.declared.answers.Checked.{Checked}
-use Rattle.records.specs.declared.answers.Verdict.{Verdict}
-use Rattle.records.specs.declared.answers.Verdict.the-variants.{Member, NotMember}
 use Rattle.records.specs.Refusals.{_andThen_, must, targetRules}
 use Rattle.slots.specs.Refusals.{systemRules, wordRoom}
 use Rattle.slots.specs.Systems.{freelyReducedWords, slots}
 use Rattle.runs.specs.Runs.{roomFor}
 use Rattle.reduction.specs.Reduction.{logAfter, reductionOf, runTests, wordsAfter}
 use Rattle.reduction.specs.declared.answers.Reduction.{Reduction}
+use Rattle.asking.specs.Asking.{verdictOf}
 use Rattle.factoring.specs.TargetProduct.{isFound, productAfter, productFor, targetWord}
-
--- whether the target is a member, as the verdict says it
-abbrev pub verdictOf : Bool → Verdict
-verdictOf true = Member
-verdictOf false = NotMember
 
 -- refusals 1 to 5, 6, 10 and 11. "The product buffer is shorter than 64 bytes."
 unfoldable pub memberTests : List ℕ → List ℕ → ℕ → ℕ → Checked

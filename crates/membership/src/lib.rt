@@ -7,9 +7,11 @@ ghost use Rattle.records.specs.declared.answers.Checked.the-variants.{Fine};
 ghost use Rattle.slots.specs.Held.{Held, held};
 ghost use Rattle.slots.specs.Systems.{bytesOf};
 ghost use Rattle.factoring.specs.TargetProduct.{isFound, productAfter, productFor, targetWord};
-ghost use Rattle.membership.specs.Meaning.{MemberMeans};
-ghost use Rattle.membership.specs.Membership.{memberAnswer, memberLog, memberProduct, memberTests, memberWords, verdictOf};
-use factoring::factor_target;
+ghost use Rattle.asking.specs.Asking.{verdictOf};
+ghost use Rattle.asking.specs.Meaning.{Answered};
+ghost use Rattle.membership.specs.Meaning.{InTurn, MemberMeans};
+ghost use Rattle.membership.specs.Membership.{memberAnswer, memberLog, memberProduct, memberTests, memberWords};
+use asking::ask_held;
 use records::answers::Checked;
 use records::answers::Verdict;
 use records::answers::check_that;
@@ -38,6 +40,7 @@ pub fn member(
     ensures log { λ _. ⌜ now (log .exit) ≡ memberLog (now (system .entry)) (now (target .entry)) (now (words .entry)) (now (log .entry)) (now (product .entry)) ⌝ }
     ensures product { λ _. ⌜ now (product .exit) ≡ memberProduct (now (system .entry)) (now (target .entry)) (now (words .entry)) (now (log .entry)) (now (product .entry)) ⌝ }
     ensures means { λ r. ⌜ MemberMeans (now (system .entry)) (now (target .entry)) (now (words .entry)) (now (log .entry)) (now (product .entry)) r (now (words .exit)) (now (log .exit)) (now (product .exit)) ⌝ }
+    ensures turns { λ r. ⌜ (Answered (r .verdict) → InTurn (now (system .entry)) (now (target .entry)) (now (words .entry)) (now (log .entry)) (now (product .entry)) r (now (words .exit)) (now (log .exit)) (now (product .exit))) ⌝ }
 {
     member_records(system, target, words, log, product)
 }
@@ -88,7 +91,7 @@ fn decide(
     answer_with(summary, verdict)
 }
 
-// Hands back the words held in arrays, and the verdict on a target with its product over them.
+// Hands back the reduced words held in arrays, and asks them about the target.
 fn conclude(
     target: &[u8],
     n: usize,
@@ -104,19 +107,7 @@ fn conclude(
     ensures product { λ _. ⌜ now (product .exit) ≡ productAfter (productFor (held n (now (letters .entry)) (now (lengths .entry))) (targetWord (now (target .entry)))) (now (product .entry)) ⌝ }
 {
     store(letters, lengths, n, words);
-    let found = factor_target(target, n, letters, lengths, product);
-    verdict_of(found)
-}
-
-// The verdict on a target.
-fn verdict_of(found: bool) -> Verdict
-    ensures { λ r. ⌜ r ≡ verdictOf found ⌝ }
-{
-    if found {
-        Verdict::Member
-    } else {
-        Verdict::NotMember
-    }
+    ask_held(target, n, letters, lengths, product)
 }
 
 // Refusals 1 to 5, 6, 10 and 11.

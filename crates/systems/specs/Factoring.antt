@@ -1,5 +1,5 @@
 -- Writing a word as a product over a reduced system (Nielsen, section 3): one factor after the other is found at the word's beginning
--- and taken off. That this decides what is generated is proved (`Decides` of membership); a reader need not trust it.
+-- and taken off. That this decides what is generated is proved (`Decides` of asking); a reader need not trust it.
 use Prim.Native.Nat.{ℕ, zero, suc, _*_, _%_}
 use mathlib.Core.Bool.{Bool, true, false, cond, not, _&&_, _||_}
 use mathlib.Core.Option.{Option, none, some}

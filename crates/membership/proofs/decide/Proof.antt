@@ -4,7 +4,8 @@ use borrow.Author.Needs.{needs}
 use Rattle.records.proofs.Chains.{changed, passed-changed, passed-then, unchanged}
 use Rattle.slots.proofs.Holding.{held-none}
 use Rattle.reduction.proofs.Calls.{answer-given, answer-refused, run-stored}
-use Rattle.membership.proofs.Calls.{passed-fits, passed-product, passed-size, passed-target, product-run, verdict-run}
+use Rattle.asking.proofs.Calls.{product-held, verdict-held}
+use Rattle.membership.proofs.Calls.{passed-fits, passed-product, passed-size, passed-target}
 use Rattle.membership.proofs.decide.Statement.{statement}
 use Rattle.membership.proofs.decide.Tie as tie
 
@@ -56,7 +57,7 @@ same-length-4 c = search needs
 
 returns-2 : tie.Need-returns-2
 returns-2 c =
-    (search (answer-given, passed-then, verdict-run, needs), (search (changed, passed-then, run-stored, needs), (search (passed-changed, needs), search (changed, passed-then, product-run, needs))))
+    (search (answer-given, passed-then, verdict-held, needs), (search (changed, passed-then, run-stored, needs), (search (passed-changed, needs), search (changed, passed-then, product-held, needs))))
 
 pub decide-spec : {M : Type 1} → statement M
 decide-spec =

@@ -1,6 +1,6 @@
 -- `membership::member` meets its contract.
 use borrow.Author.Needs.{needs}
-use Rattle.membership.proofs.Meaning.{member-means}
+use Rattle.membership.proofs.Meaning.{member-means, member-turns}
 use Rattle.membership.proofs.member.Statement.{statement}
 use Rattle.membership.proofs.member.Tie as tie
 
@@ -17,7 +17,7 @@ same-length-3 : tie.Need-same-length-3
 same-length-3 c = search needs
 
 returns : tie.Need-returns
-returns c = (search needs, (search needs, (search needs, (search needs, search (member-means, needs)))))
+returns c = (search needs, (search needs, (search needs, (search needs, (search (member-means, needs), search (member-turns, needs))))))
 
 pub member-spec : {M : Type 1} → statement M
 member-spec =

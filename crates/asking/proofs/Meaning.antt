@@ -1,0 +1,274 @@
+-- What the verdict on a target means: the search for a product over a reduced system decides. A product that it finds has at most 63
+-- factors, comes back from its record and is taken by multiply. So ask decides, and so does a call that asks an equivalent system.
+use Prim.Native.Nat.{_+_, _<_, _≤_, ℕ}
+use mathlib.Core.Bool.{Bool, false, true, true≢false}
+use mathlib.Core.List.{List, [], _∷_, map}
+use mathlib.Core.Logic.{_↔_, inl, inr}
+use mathlib.Core.Option.{Option, none, some}
+use mathlib.Core.Path.{_∙_, _≡_, ap, refl, sym}
+use native.Mathlib.Omega.{arith}
+use lib.Dec.{leb}
+use lib.ListN.{length, take}
+use borrow.Author.Tests.{le-leb, lt-ltb}
+use Rattle.words.specs.Alphabet.{bytes}
+use Rattle.words.specs.Words.{Irreducible, freelyReduce}
+use Rattle.words.proofs.Alphabet.{byteLaws}
+use Rattle.words.proofs.Buffers.{written-take}
+use Rattle.words.proofs.FreeReduction.{freelyReduce-irreducible, length-freelyReduce}
+use Rattle.systems.specs.Products.{Equivalent, Factor, FreelyReduced, FreelyReducedOver, Generated, multiplied}
+use Rattle.systems.specs.Reduced.{Reduced}
+use Rattle.systems.proofs.Equivalence.{reduced-equivalent, reduced-multiplied}
+use Rattle.systems.proofs.Logic.{bool-cases, option-cases}
+use Rattle.systems.proofs.Membership.{factored-freely, factored-length, factored-only, factored-sound, generated-none, some-generated}
+use Rattle.systems.proofs.ProductLaws.{Named, over-named, overWords-over, word-slot, words-named}
+use Rattle.records.specs.Answers.{onFine, refusalNumber}
+use Rattle.records.specs.Records.{recordOf, wordOf}
+use Rattle.records.specs.Refusals.{_andThen_, eachByte, must, targetRules}
+use Rattle.records.specs.declared.answers.Answer.{Answer}
+use Rattle.records.specs.declared.answers.Checked.{Checked}
+use Rattle.records.specs.declared.answers.Checked.the-variants.{Failed, Fine}
+use Rattle.records.specs.declared.answers.Verdict.{Verdict}
+use Rattle.records.specs.declared.answers.Verdict.the-variants.{Member, NotMember}
+use Rattle.records.proofs.Chains.{fine-first, fine-next, must-fine}
+use Rattle.records.proofs.RoundTrip.{word-short}
+use Rattle.slots.specs.Factors.{factorByte, factorOf, productOf}
+use Rattle.slots.specs.Refusals.{systemRules, wordRoom}
+use Rattle.slots.specs.Systems.{freelyReducedWords, slots, systemOf}
+use Rattle.slots.proofs.Factors.{product-back, product-length, product-passes}
+use Rattle.slots.proofs.Systems.{loaded-freelyReduced, system-few}
+use Rattle.multiply.specs.Multiply.{multiplyRules, multiplyTests, productWord}
+use Rattle.multiply.specs.SlotLetters.{hasSlot, slotRule}
+use Rattle.runs.specs.Runs.{stopped}
+use Rattle.reduction.proofs.Meaning.{tested-means, words-length}
+use Rattle.factoring.specs.TargetProduct.{isFound, productAfter, productFor, targetWord}
+use Rattle.asking.specs.Asking.{askAnswer, askFound, askProduct, askTests, askedOf, questionRules, readyRules, verdictOf}
+use Rattle.asking.specs.Meaning.{Answered, AskMeans, Decides}
+
+-- multiply takes a product over the slots of a system that multiplies out to what a record's word freely reduces to
+slots-pass : (n : ℕ) (l : List ℕ) (at : ℕ) → Named (λ k. k < n) (map factorOf l) → eachByte (hasSlot n) 9 l at ≡ Fine
+slots-pass n [] at h = refl
+slots-pass n (b ∷ l) at h = rw (lt-ltb (factorOf b .slot) n (h .0)) (slots-pass n l (at + 1) h.1)
+
+product-accepted : (W P t : List ℕ) → systemRules W ≡ Fine → targetRules P ≡ Fine → FreelyReducedOver bytes (freelyReducedWords W) (productOf P)
+    → multiplied bytes (systemOf W) (productOf P) ≡ freelyReduce bytes (wordOf t) → (room : ℕ) → 64 ≤ room → multiplyRules W P room ≡ Fine
+unfolding multiplyRules multiplyTests slotRule wordRoom productWord
+product-accepted W P t system target over word room enough =
+    let named : Named (λ k. k < slots W) (productOf P) =
+    rw (words-length W) at (over-named bytes byteLaws (freelyReducedWords W) (productOf P)
+    (overWords-over bytes byteLaws (freelyReducedWords W) (productOf P) (over .0))) in
+    let short : length (multiplied bytes (systemOf W) (productOf P)) ≤ 63 =
+    omega (arith, ap length word, length-freelyReduce bytes byteLaws (wordOf t), word-short t) in
+    rw (system, target, slots-pass (slots W) (wordOf P) 0 named, le-leb 64 room enough, le-leb _ 63 short)
+
+-- the two verdicts
+apart : (v : Verdict) → v ≡ Member → v ≡ NotMember → ⊥
+apart v e h = let z : _≡_ {A = ℕ} 0 1 = cc in omega arith
+
+pub verdict-cases : (v : Verdict) (o : Option (List Factor)) → v ≡ verdictOf (isFound o) → Answered v
+verdict-cases v none e = inr e
+verdict-cases v (some p) e = inl e
+
+-- a reduced system asked about the target
+module _ (T : List (List ℕ)) (t : List ℕ) (freely : FreelyReduced bytes T) (reduced : Reduced bytes T) where
+  target-short : length (targetWord t) ≤ 63
+  target-short = omega (arith, length-freelyReduce bytes byteLaws (wordOf t), word-short t)
+
+  -- nothing found: the target is not generated
+  missed-means : productFor T (targetWord t) ≡ none → Generated bytes T (wordOf t) → ⊥
+  missed-means e = generated-none bytes byteLaws T freely reduced 63 (wordOf t) target-short e
+
+  module _ (p : List Factor) (found : productFor T (targetWord t) ≡ some p) where
+    irreducible : Irreducible bytes (targetWord t)
+    irreducible = freelyReduce-irreducible bytes byteLaws (wordOf t)
+
+    found-means : Generated bytes T (wordOf t)
+    found-means = some-generated bytes byteLaws T 63 (wordOf t) p found
+
+    found-freely : FreelyReducedOver bytes T p
+    found-freely = factored-freely bytes byteLaws T freely reduced 63 (targetWord t) p irreducible found
+
+    found-multiplied : multiplied bytes T p ≡ targetWord t
+    found-multiplied = factored-sound bytes byteLaws T 63 (targetWord t) p irreducible found .1
+
+    found-only : (q : List Factor) → FreelyReducedOver bytes T q → multiplied bytes T q ≡ targetWord t → q ≡ p
+    found-only q r e = factored-only bytes byteLaws T freely reduced 63 (targetWord t) p q irreducible found r e
+
+    -- the product fits one record
+    found-short : length p ≤ 63
+    found-short = omega (arith, factored-length bytes byteLaws T freely reduced 63 (targetWord t) p irreducible found, target-short)
+
+    -- and names only slots that the system has
+    found-named : length T ≤ 16 → Named (λ k. k < 26) p
+    found-named few =
+        words-named bytes byteLaws T (λ k. k < 26) p (λ k h. omega (arith, word-slot bytes byteLaws T k h)) (found-freely .0)
+
+-- a system W of records that passes its tests and is reduced after free reduction, asked about a target: v is the verdict, and product′
+-- the product buffer afterwards
+module _ (W t product product′ : List ℕ) (v : Verdict) (system : systemRules W ≡ Fine) (reduced : Reduced bytes (freelyReducedWords W))
+    (told : v ≡ verdictOf (isFound (askFound W t))) (gave : product′ ≡ productAfter (askFound W t) product) where
+  freely : FreelyReduced bytes (freelyReducedWords W)
+  freely = loaded-freelyReduced W
+
+  -- a product multiplies out to the same word over the words as they are given
+  same-product : (p : List Factor) → multiplied bytes (freelyReducedWords W) p ≡ multiplied bytes (systemOf W) p
+  unfolding freelyReducedWords
+  same-product p = reduced-multiplied bytes byteLaws (systemOf W) p
+
+  same-words : Equivalent bytes (systemOf W) (freelyReducedWords W)
+  unfolding freelyReducedWords
+  same-words = reduced-equivalent bytes byteLaws (systemOf W)
+
+  -- not a member
+  missed : askFound W t ≡ none → Decides W t W (take 64 product′) v
+  missed e =
+      let verdict : v ≡ NotMember = told ∙ ap (λ (o : Option (List Factor)). verdictOf (isFound o)) e in
+      let outside : Generated bytes (systemOf W) (wordOf t) → ⊥ =
+      λ g. missed-means (freelyReducedWords W) t freely reduced e (same-words (wordOf t) .0 g) in
+      record {
+        member = (λ m. absurd (apart v m verdict), λ g. absurd (outside g));
+        notMember = (λ m. outside, λ o. verdict);
+        freelyReduced = λ m. absurd (apart v m verdict);
+        multipliesOut = λ m. absurd (apart v m verdict);
+        fits = λ m. absurd (apart v m verdict);
+        accepted = λ m. absurd (apart v m verdict);
+        only = λ m q r d. absurd (apart v m verdict);
+      }
+
+  -- a member
+  module _ (p : List Factor) (e : askFound W t ≡ some p) where
+    short : length p ≤ 63
+    short = found-short (freelyReducedWords W) t freely reduced p e
+
+    named : Named (λ k. k < 26) p
+    named = found-named (freelyReducedWords W) t freely reduced p e (rw (words-length W) (system-few W system))
+
+    product-is : take 64 product′ ≡ recordOf (map factorByte p)
+    product-is =
+        ap (take 64) (gave ∙ ap (λ (o : Option (List Factor)). productAfter o product) e)
+        ∙ written-take (recordOf (map factorByte p)) product 64 (product-length p short named)
+
+    back : productOf (take 64 product′) ≡ p
+    back = ap productOf product-is ∙ product-back p short named
+
+    product-passed : targetRules (take 64 product′) ≡ Fine
+    product-passed = ap targetRules product-is ∙ product-passes p short named
+
+    product-freely : FreelyReducedOver bytes (freelyReducedWords W) (productOf (take 64 product′))
+    product-freely = rw back (found-freely (freelyReducedWords W) t freely reduced p e)
+
+    product-multiplied : multiplied bytes (systemOf W) (productOf (take 64 product′)) ≡ freelyReduce bytes (wordOf t)
+    product-multiplied = rw (back, ← same-product p) (found-multiplied (freelyReducedWords W) t freely reduced p e)
+
+    hit : Decides W t W (take 64 product′) v
+    hit =
+        let verdict : v ≡ Member = told ∙ ap (λ (o : Option (List Factor)). verdictOf (isFound o)) e in
+        let inside : Generated bytes (systemOf W) (wordOf t) =
+        same-words (wordOf t) .1 (found-means (freelyReducedWords W) t freely reduced p e) in
+        record {
+          member = (λ m. inside, λ g. verdict);
+          notMember = (λ m. absurd (apart v verdict m), λ o. absurd (o inside));
+          freelyReduced = λ m. product-freely;
+          multipliesOut = λ m. product-multiplied;
+          fits = λ m. product-passed;
+          accepted = λ m. product-accepted W (take 64 product′) t system product-passed product-freely product-multiplied;
+          only = λ m q r d. found-only (freelyReducedWords W) t freely reduced p e q r (same-product q ∙ d) ∙ sym back;
+        }
+
+  asked-decides : Decides W t W (take 64 product′) v
+  asked-decides = elim (option-cases (askFound W t)) [ inl e ↦ missed e | inr f ↦ hit f.0 f.1 ]
+
+-- where an equivalent system was given, the verdict decides of that one too
+pub decides-equivalent : (s t W P : List ℕ) (v : Verdict) → Equivalent bytes (systemOf s) (systemOf W) → Decides W t W P v → Decides s t W P v
+decides-equivalent s t W P v same decided =
+    let both = same (wordOf t) in
+    record {
+      member = (λ e. both .1 (decided .member .0 e), λ g. decided .member .1 (both .0 g));
+      notMember = (λ e g. decided .notMember .0 e (both .0 g), λ o. decided .notMember .1 (λ g. o (both .1 g)));
+      freelyReduced = decided .freelyReduced;
+      multipliesOut = decided .multipliesOut;
+      fits = decided .fits;
+      accepted = decided .accepted;
+      only = decided .only;
+    }
+
+-- an answer that is one of the two verdicts comes from a call that passed its tests
+answered-fine : (c : Checked) (v : Verdict) → Answered (askedOf c v .verdict) → c ≡ Fine
+answered-fine Fine v h = refl
+answered-fine (Failed f) v (inl e) = let z : _≡_ {A = ℕ} 0 1 = cc in absurd (omega arith)
+answered-fine (Failed f) v (inr e) = let z : _≡_ {A = ℕ} 0 1 = cc in absurd (omega arith)
+
+-- no verdict on a target is a refusal
+pub verdict-unrefused : (b : Bool) → refusalNumber (verdictOf b) ≡ 0
+verdict-unrefused true = refl
+verdict-unrefused false = refl
+
+-- a call that passed refusals 1 to 6 gets 15 exactly where some rule applies
+fifteen : (b : Bool) (room : ℕ) (found : Bool)
+    → (refusalNumber (askedOf (must b 15 0 andThen must (leb 64 room) 11 0) (verdictOf found) .verdict) ≡ 15) ↔ (b ≡ false)
+fifteen false room found = (λ e. refl, λ e. refl)
+fifteen true room found = (λ e. absurd (never (leb 64 room) e), λ e. absurd (true≢false e))
+  where
+    never : (d : Bool) → refusalNumber (askedOf (must d 11 0) (verdictOf found) .verdict) ≡ 15 → ⊥
+    never true e = omega (arith, e, verdict-unrefused found)
+    never false e = omega (arith, e)
+
+-- the call, where its tests passed
+module _ (s t product : List ℕ) (passed : askTests s t product ≡ Fine) where
+  question : questionRules s t ≡ Fine
+  question = fine-first (questionRules s t) _ passed
+
+  system-passed : systemRules s ≡ Fine
+  unfolding questionRules
+  system-passed = fine-first (systemRules s) _ question
+
+  -- the freely reduced words are reduced
+  words-reduced : Reduced bytes (freelyReducedWords s)
+  unfolding readyRules
+  words-reduced = tested-means s .0 (must-fine _ 15 0 (fine-first _ _ (fine-next (questionRules s t) _ passed)))
+
+  -- what it answers and writes
+  verdict-is : (a : Answer) → a ≡ askAnswer s t product → a .verdict ≡ verdictOf (isFound (askFound s t))
+  verdict-is a answered =
+      ap (λ (r : Answer). r .verdict) (answered ∙ ap (λ (c : Checked). askedOf c (verdictOf (isFound (askFound s t)))) passed)
+
+  product-written : (product′ : List ℕ) → product′ ≡ askProduct s t product → product′ ≡ productAfter (askFound s t) product
+  product-written product′ gave = gave ∙ ap (λ (c : Checked). onFine c (productAfter (askFound s t) product) product) passed
+
+-- they pass where system and target are well formed, the freely reduced words are reduced and the product has room
+pub ask-passes : (s t product : List ℕ) → systemRules s ≡ Fine → targetRules t ≡ Fine → Reduced bytes (freelyReducedWords s) → 64 ≤ length product
+    → askTests s t product ≡ Fine
+unfolding questionRules readyRules
+ask-passes s t product system target reduced room = rw (system, target, tested-means s .1 reduced, le-leb 64 (length product) room) refl
+
+-- the answer of ask and what it wrote mean what is demanded of them
+module _ (s t product : List ℕ) (a : Answer) (product′ : List ℕ) (answered : a ≡ askAnswer s t product) (gave : product′ ≡ askProduct s t product) where
+  tests-passed : Answered (a .verdict) → askTests s t product ≡ Fine
+  tests-passed told = answered-fine (askTests s t product) (verdictOf (isFound (askFound s t))) (rw answered at told)
+
+  unreduced : systemRules s ≡ Fine → targetRules t ≡ Fine → (refusalNumber (a .verdict) ≡ 15) ↔ (stopped (freelyReducedWords s) ≡ false)
+  unfolding questionRules readyRules
+  unreduced system target =
+      rw (answered, system, target) (fifteen (stopped (freelyReducedWords s)) (length product) (isFound (askFound s t)))
+
+  pub ask-means : AskMeans s t product a product′
+  ask-means =
+      record {
+        notReduced =
+            λ system target. (
+              λ e reduced. true≢false (sym (tested-means s .1 reduced) ∙ unreduced system target .0 e),
+              λ o.
+                  unreduced system target .1 (elim (bool-cases (stopped (freelyReducedWords s))) [
+                    | inl e ↦ absurd (o (tested-means s .0 e))
+                    | inr e ↦ e
+                  ]),
+            );
+        answered =
+            λ system target reduced room.
+            verdict-cases (a .verdict) (askFound s t) (verdict-is s t product (ask-passes s t product system target reduced room) a answered);
+        reduced = λ told. words-reduced s t product (tests-passed told);
+        decides =
+            λ told.
+            let passed = tests-passed told in
+            asked-decides s t product product′ (a .verdict) (system-passed s t product passed) (words-reduced s t product passed)
+            (verdict-is s t product passed a answered) (product-written s t product passed product′ gave);
+      }
