@@ -1,4 +1,4 @@
--- Member asked with the program's own buffers, and the output from the bytes kept and the count.
+-- Member called with the program's own buffers, and the output from the bytes kept and the count.
 use Prim.Native.Nat.{_%_, _*_, _/_, _-_, _<_, _≤_, ℕ}
 use mathlib.Core.Bool.{not}
 use mathlib.Core.List.{List}
@@ -25,7 +25,8 @@ use Rattle.runs.specs.Runs.{roomFor}
 use Rattle.reduction.specs.Reduction.{reductionOf}
 use Rattle.reduction.specs.declared.answers.Reduction.{Reduction}
 use Rattle.factoring.specs.TargetProduct.{isFound}
-use Rattle.membership.specs.Membership.{memberAnswer, memberChecked, memberFound, memberLog, memberProduct, memberWords, verdictOf}
+use Rattle.asking.specs.Asking.{verdictOf}
+use Rattle.membership.specs.Membership.{memberAnswer, memberChecked, memberFound, memberLog, memberProduct, memberWords}
 use Rattle.lines.specs.Lines.{answerLines, linesAfter, refusalIn, refusalLine}
 use Rattle.printing.proofs.Printing.{prints-as}
 use Rattle.output.specs.Output.{outputFrom, answerOutput, givenSystem, inputRules, programLog, programProduct, programOutput, programWords}

@@ -1,3 +1,3 @@
 -- Laws that the proofs of several functions cite.
-pub mod Asking
+pub mod Calling
 pub mod Meaning

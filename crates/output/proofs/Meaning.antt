@@ -20,7 +20,8 @@ use Rattle.moves.specs.Logs.{moveSize}
 use Rattle.runs.specs.Runs.{roomFor, stopped}
 use Rattle.reduction.specs.Meaning.{EnoughMoves}
 use Rattle.reduction.specs.declared.answers.Reduction.{Reduction}
-use Rattle.membership.specs.Meaning.{Answered, EnoughRoom, MemberMeans}
+use Rattle.asking.specs.Meaning.{Answered}
+use Rattle.membership.specs.Meaning.{EnoughRoom, MemberMeans}
 use Rattle.membership.proofs.Meaning.{member-means, tests-pass}
 use Rattle.input.specs.Input.{CountOf, Holds}
 use Rattle.lines.specs.Lines.{refusalIn, refusalLine}
@@ -28,7 +29,7 @@ use Rattle.output.specs.Meaning.{Decided, PrintMeans, WellFormed}
 use Rattle.output.specs.Output.{answer, answerOutput, givenSystem, givenTarget, inputRules, log, outputFrom, programLog, product, programProduct, programOutput, words, programWords}
 use Rattle.printing.specs.Printing.{Prints}
 use Rattle.printing.specs.declared.answers.Printed.{Printed}
-use Rattle.output.proofs.Asking.{refused-from, size-most}
+use Rattle.output.proofs.Calling.{refused-from, size-most}
 
 -- a length over 1,088 is refused, by what its count tells
 long-refused : (n : ℕ) → 1088 < n → (f : Refusal) × (inputRules n ≡ Failed f)
@@ -88,7 +89,7 @@ product-room : length programProduct ≡ 64
 unfolding programProduct
 product-room = length-replicate {A = ℕ} 64 0
 
-unrefused : (a : Reduction) → Answered a → refusalIn (a .verdict) ≡ Fine
+unrefused : (a : Reduction) → Answered (a .verdict) → refusalIn (a .verdict) ≡ Fine
 unrefused a (inl e) = rw e refl
 unrefused a (inr e) = rw e refl
 
@@ -128,6 +129,7 @@ module _ (input : List ℕ) (formed : WellFormed input) where
         lines = rw (formed .sized, unrefused (answer input) told) refl;
         answered = told;
         decides = means .decides told;
+        reduces = means .reduces told;
       }
 
   pub output-short : (EnoughMoves (givenSystem input) 16384 → ⊥) → programOutput input ≡ refusalLine (record { number = 13; place = 0 })

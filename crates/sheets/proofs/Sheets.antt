@@ -7,6 +7,7 @@ use Rattle.records.specs.Refusals.{lettersRule, recordRules, targetRules}
 use Rattle.slots.specs.Refusals.{systemRules, wordRoom, systemRoom}
 use Rattle.slots.specs.Systems.{freelyReducedWords}
 use Rattle.systems.specs.Factoring.{leading}
+use Rattle.asking.specs.Asking.{questionRules, readyRules}
 use Rattle.membership.specs.Membership.{memberTests}
 use Rattle.lines.specs.Lines.{firstLine, refusalLine}
 use Rattle.output.specs.Output.{answerOutput, inputRules, programLog, programProduct, programOutput, programWords}
@@ -19,7 +20,7 @@ _and_ : {A B : Type 0} → A → B → A × B
 a and b = (a, b)
 
 pub sheets-hold : EachSays sheets
-unfolding flipByte inverse shortening halfEnd next leading recordRules lettersRule systemRules wordRoom freelyReducedWords systemRoom targetRules memberTests decimal refusalLine firstLine inputRules programWords programLog programProduct answerOutput programOutput
+unfolding flipByte inverse shortening halfEnd next leading recordRules lettersRule systemRules wordRoom freelyReducedWords systemRoom targetRules questionRules readyRules memberTests decimal refusalLine firstLine inputRules programWords programLog programProduct answerOutput programOutput
 sheets-hold =
     (refl, refl)
     and (refl, refl)
@@ -33,6 +34,12 @@ sheets-hold =
     and ((refl, refl, refl), (refl, refl, refl, refl))
     and ((refl, refl, refl), (refl, refl, refl, refl))
     and (refl, refl, refl)
+    and (refl, refl)
+    and (refl, refl)
+    and (refl, refl)
+    and (refl, refl)
+    and (refl, refl)
+    and (refl, refl)
     and refl
     and refl
     and refl

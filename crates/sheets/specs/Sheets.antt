@@ -10,9 +10,10 @@ use Rattle.records.specs.Records.{recordOf}
 use Rattle.words.specs.Buffers.{written}
 use Rattle.tidy.specs.Tidy.{tidyAnswer, tidyBuffer}
 use Rattle.records.specs.declared.answers.Verdict.{Verdict}
-use Rattle.records.specs.declared.answers.Verdict.the-variants.{Done, Member, NotMember}
+use Rattle.records.specs.declared.answers.Verdict.the-variants.{Done, Member, NotMember, Refused}
 use Rattle.reduction.specs.Reduction.{reduceAnswer, reduceWords, reduceLog}
 use Rattle.reduction.specs.declared.answers.Reduction.{Reduction}
+use Rattle.asking.specs.Asking.{askAnswer, askProduct}
 use Rattle.membership.specs.Membership.{memberAnswer, memberLog, memberProduct, memberWords}
 use Rattle.output.specs.Output.{programOutput}
 use Rattle.lines.specs.Text.{bytesIn}
@@ -52,6 +53,8 @@ pub data Sheet : Type 0 where
   member : String → Outcome → String → String → Sheet
   -- words, and a target that is not a member
   notMember : String → Outcome → String → Sheet
+  -- words to ask, a target, the length of the product buffer, the verdict, and that buffer afterwards
+  asks : String → List String → String → ℕ → Verdict → List ℕ → Sheet
   -- words on the program's standard input, the last one the target, and the lines that it prints
   prints : String → List String → List String → Sheet
 
@@ -85,6 +88,9 @@ Says (tidies label given result) =
 Says (reduces label o) = Reduces o
 Says (member label o target product) = Reduces o × Decides o target Member (recordIn product)
 Says (notMember label o target) = Reduces o × Decides o target NotMember (lent 64)
+Says (asks label words target room verdict product) =
+    (askAnswer (systemIn words) (recordIn target) (lent room) ≡ record { verdict = verdict })
+    × (askProduct (systemIn words) (recordIn target) (lent room) ≡ product)
 Says (prints label given lines) = programOutput (systemIn given) ≡ linesIn lines
 
 -- what every sheet of a list says
@@ -103,6 +109,10 @@ threeWords = outcome ("ab" ∷ "ac" ∷ "Bd" ∷ []) ("c1a" ∷ []) ("ab" ∷ "a
 abbrev pub noWords : Outcome
 noWords = outcome [] [] [] 0 true
 
+-- a refusal whose place is 0
+abbrev pub refused : ℕ → Verdict
+refused n = Refused (record { number = n; place = 0 })
+
 abbrev pub sheets : List Sheet
 sheets =
     tidies "P1" "aAbBc" "c"
@@ -117,6 +127,12 @@ sheets =
     ∷ notMember "P10" noWords "a"
     ∷ member "P11" (outcome ("ab" ∷ "ab" ∷ []) ("a2b" ∷ []) ("" ∷ "ab" ∷ []) 1 false) "abab" "bb"
     ∷ reduces "P12" (outcome ("aA" ∷ "b" ∷ []) [] ("" ∷ "b" ∷ []) 1 true)
+    ∷ asks "A1" ("ab" ∷ "ac" ∷ "ad" ∷ []) "Cd" 64 Member (recordIn "Bc")
+    ∷ asks "A2" ("ab" ∷ "ac" ∷ "ad" ∷ []) "d" 64 NotMember (lent 64)
+    ∷ asks "A3" ("cC" ∷ "aAb" ∷ []) "bcCb" 64 Member (recordIn "bb")
+    ∷ asks "A4" ("ab" ∷ "b" ∷ []) "a" 64 (refused 15) (lent 64)
+    ∷ asks "A5" ("ab" ∷ "b" ∷ []) "a" 63 (refused 15) (lent 63)
+    ∷ asks "A6" ("a" ∷ "b" ∷ []) "a" 63 (refused 11) (lent 63)
     ∷ prints "P3" ("ab" ∷ "b" ∷ "a" ∷ [])
     ("moves 1 rank 2 independent yes member yes"
     ∷ "a.............................................................."

@@ -9,8 +9,11 @@ use Rattle.reduction.specs.declared.answers.Tested.{Tested}
 use Rattle.reduction.specs.Meaning.{TestMeans, ReduceMeans}
 use Rattle.reduction.proofs.Meaning.{test-means, reduce-means}
 use Rattle.membership.specs.Membership.{memberAnswer, memberWords, memberLog, memberProduct}
-use Rattle.membership.specs.Meaning.{MemberMeans}
-use Rattle.membership.proofs.Meaning.{member-means}
+use Rattle.membership.specs.Meaning.{InTurn, MemberMeans}
+use Rattle.membership.proofs.Meaning.{member-means, member-turns}
+use Rattle.asking.specs.Asking.{askAnswer, askProduct}
+use Rattle.asking.specs.Meaning.{Answered, AskMeans}
+use Rattle.asking.proofs.Meaning.{ask-means}
 use Rattle.subgroups_c.specs.Numbers.{plainNumbers, testNumbers, reductionNumbers}
 
 pub plain-of : {r : List ℕ} {a : Answer} (b : Answer) → r ≡ plainNumbers a → a ≡ b → r ≡ plainNumbers b
@@ -35,8 +38,14 @@ pub reduce-meaning : (s words log words′ log′ : List ℕ) → words′ ≡ r
     → ReduceMeans s words log (reduceAnswer s words log) words′ log′
 reduce-meaning s words log words′ log′ wrote logged = reduce-means s words log (reduceAnswer s words log) words′ log′ refl wrote logged
 
-pub member-meaning : (s t words log product words′ log′ product′ : List ℕ) → words′ ≡ memberWords s t words log product
-    → log′ ≡ memberLog s t words log product → product′ ≡ memberProduct s t words log product
-    → MemberMeans s t words log product (memberAnswer s t words log product) words′ log′ product′
-member-meaning s t words log product words′ log′ product′ wrote logged gave =
-    member-means s t words log product (memberAnswer s t words log product) words′ log′ product′ refl wrote logged gave
+pub ask-meaning : (s t product product′ : List ℕ) → product′ ≡ askProduct s t product → AskMeans s t product (askAnswer s t product) product′
+ask-meaning s t product product′ gave = ask-means s t product (askAnswer s t product) product′ refl gave
+
+module _ (s t words log product words′ log′ product′ : List ℕ) (wrote : words′ ≡ memberWords s t words log product)
+    (logged : log′ ≡ memberLog s t words log product) (gave : product′ ≡ memberProduct s t words log product) where
+  pub member-meaning : MemberMeans s t words log product (memberAnswer s t words log product) words′ log′ product′
+  member-meaning = member-means s t words log product (memberAnswer s t words log product) words′ log′ product′ refl wrote logged gave
+
+  pub member-in-turn : Answered (memberAnswer s t words log product .verdict)
+      → InTurn s t words log product (memberAnswer s t words log product) words′ log′ product′
+  member-in-turn = member-turns s t words log product (memberAnswer s t words log product) words′ log′ product′ refl wrote logged gave

@@ -6,7 +6,9 @@ ghost use Rattle.replay.specs.Replay.{replayAnswer, replayBuffer};
 ghost use Rattle.multiply.specs.Multiply.{multiplyAnswer, multiplyBuffer};
 ghost use Rattle.reduction.specs.Meaning.{ReduceMeans, TestMeans};
 ghost use Rattle.reduction.specs.Reduction.{reduceAnswer, reduceLog, reduceWords, testAnswer};
-ghost use Rattle.membership.specs.Meaning.{MemberMeans};
+ghost use Rattle.asking.specs.Asking.{askAnswer, askProduct};
+ghost use Rattle.asking.specs.Meaning.{Answered, AskMeans};
+ghost use Rattle.membership.specs.Meaning.{InTurn, MemberMeans};
 ghost use Rattle.membership.specs.Membership.{memberAnswer, memberLog, memberProduct, memberWords};
 ghost use Rattle.subgroups_c.specs.Numbers.{isBackward, oneOrZero, plainNumbers, reductionNumbers, testNumbers};
 use records::answers::Answer;
@@ -173,6 +175,22 @@ pub extern "C" fn subgroups_reduce(
     *numbers = reduction_numbers(answer);
 }
 
+// Ask: the verdict of a reduced system on a target and, for a member, the product over the system's freely reduced words.
+#[no_mangle]
+pub extern "C" fn subgroups_ask(
+    system: &[u8],
+    target: &[u8],
+    product: &mut [u8],
+    numbers: &mut [u64; 7],
+)
+    ensures product { λ _. ⌜ now (product .exit) ≡ askProduct (now (system .entry)) (now (target .entry)) (now (product .entry)) ⌝ }
+    ensures numbers { λ _. ⌜ now (numbers .exit) ≡ plainNumbers (askAnswer (now (system .entry)) (now (target .entry)) (now (product .entry))) ⌝ }
+    ensures means { λ _. ⌜ AskMeans (now (system .entry)) (now (target .entry)) (now (product .entry)) (askAnswer (now (system .entry)) (now (target .entry)) (now (product .entry))) (now (product .exit)) ⌝ }
+{
+    let answer = asking::ask(system, target, product);
+    *numbers = plain_numbers(answer);
+}
+
 // Member: all that reduce writes, the verdict on a target and, for a member, the product over the reduced words.
 #[no_mangle]
 pub extern "C" fn subgroups_member(
@@ -188,6 +206,7 @@ pub extern "C" fn subgroups_member(
     ensures product { λ _. ⌜ now (product .exit) ≡ memberProduct (now (system .entry)) (now (target .entry)) (now (words .entry)) (now (log .entry)) (now (product .entry)) ⌝ }
     ensures numbers { λ _. ⌜ now (numbers .exit) ≡ reductionNumbers (memberAnswer (now (system .entry)) (now (target .entry)) (now (words .entry)) (now (log .entry)) (now (product .entry))) ⌝ }
     ensures means { λ _. ⌜ MemberMeans (now (system .entry)) (now (target .entry)) (now (words .entry)) (now (log .entry)) (now (product .entry)) (memberAnswer (now (system .entry)) (now (target .entry)) (now (words .entry)) (now (log .entry)) (now (product .entry))) (now (words .exit)) (now (log .exit)) (now (product .exit)) ⌝ }
+    ensures turns { λ _. ⌜ (Answered (memberAnswer (now (system .entry)) (now (target .entry)) (now (words .entry)) (now (log .entry)) (now (product .entry)) .verdict) → InTurn (now (system .entry)) (now (target .entry)) (now (words .entry)) (now (log .entry)) (now (product .entry)) (memberAnswer (now (system .entry)) (now (target .entry)) (now (words .entry)) (now (log .entry)) (now (product .entry))) (now (words .exit)) (now (log .exit)) (now (product .exit))) ⌝ }
 {
     let answer = membership::member(system, target, words, log, product);
     *numbers = reduction_numbers(answer);

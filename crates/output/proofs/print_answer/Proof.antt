@@ -1,6 +1,6 @@
 -- `output::print_answer` meets its contract.
 use borrow.Author.Needs.{needs}
-use Rattle.output.proofs.Asking.{answer-printed, log-lent, moves-fit, product-lent, words-lent}
+use Rattle.output.proofs.Calling.{answer-printed, log-lent, moves-fit, product-lent, words-lent}
 use Rattle.output.proofs.print_answer.Statement.{statement}
 use Rattle.output.proofs.print_answer.Tie as tie
 

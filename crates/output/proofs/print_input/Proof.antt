@@ -1,6 +1,6 @@
 -- `output::print_input` meets its contract.
 use borrow.Author.Needs.{needs}
-use Rattle.output.proofs.Asking.{length-passed, length-refused}
+use Rattle.output.proofs.Calling.{length-passed, length-refused}
 use Rattle.output.proofs.print_input.Statement.{statement}
 use Rattle.output.proofs.print_input.Tie as tie
 

@@ -1,6 +1,6 @@
 -- `output::print_kept` meets its contract.
 use borrow.Author.Needs.{needs}
-use Rattle.output.proofs.Asking.{kept-missing, kept-printed, part-least, part-most}
+use Rattle.output.proofs.Calling.{kept-missing, kept-printed, part-least, part-most}
 use Rattle.output.proofs.print_kept.Statement.{statement}
 use Rattle.output.proofs.print_kept.Tie as tie
 

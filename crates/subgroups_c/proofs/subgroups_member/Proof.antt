@@ -1,6 +1,6 @@
 -- `subgroups_c::subgroups_member` meets its contract.
 use borrow.Author.Needs.{needs}
-use Rattle.subgroups_c.proofs.Numbers.{reduction-of, member-meaning}
+use Rattle.subgroups_c.proofs.Numbers.{member-meaning, member-in-turn, reduction-of}
 use Rattle.subgroups_c.proofs.subgroups_member.Statement.{statement}
 use Rattle.subgroups_c.proofs.subgroups_member.Tie as tie
 
@@ -20,7 +20,7 @@ same-length-3 : tie.Need-same-length-3
 same-length-3 c = search needs
 
 returns : tie.Need-returns
-returns c = (search needs, (search needs, (search needs, (search (reduction-of, needs), search (member-meaning, needs)))))
+returns c = (search needs, (search needs, (search needs, (search (reduction-of, needs), (search (member-meaning, needs), search (member-in-turn, needs))))))
 
 pub subgroups-member-spec : {M : Type 1} → statement M
 subgroups-member-spec =
