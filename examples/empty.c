@@ -34,6 +34,12 @@ int main(void) {
     print_answer("multiply over no words", &answer);
     subgroups_multiply(record, sizeof record, NULL, 0, NULL, 0, &answer);
     print_answer("multiply nothing", &answer);
+    subgroups_ask(NULL, 0, blank, sizeof blank, product, sizeof product, &answer);
+    print_answer("ask no words", &answer);
+    subgroups_ask(record, sizeof record, NULL, 0, product, sizeof product, &answer);
+    print_answer("ask, no target", &answer);
+    subgroups_ask(record, sizeof record, blank, sizeof blank, NULL, 0, &answer);
+    print_answer("ask, no product", &answer);
     subgroups_member(NULL, 0, blank, sizeof blank, NULL, 0, NULL, 0, product, sizeof product, &answer);
     print_answer("member of no words", &answer);
     subgroups_member(record, sizeof record, NULL, 0, out, sizeof out, NULL, 0, NULL, 0, &answer);

@@ -76,5 +76,8 @@ int main(void) {
     expect(SUBGROUPS_WORD_TOO_LONG, "word too long", &answer);
 
     expect_member(SUBGROUPS_LOG_BUFFER_SHORT, "log buffer short", sizeof words, 3, sizeof product);
+
+    subgroups_ask(system_of_two, 2 * SUBGROUPS_RECORD, target, sizeof target, product, sizeof product, &answer);
+    expect(SUBGROUPS_SYSTEM_NOT_REDUCED, "system not reduced", &answer);
     return wrong;
 }
