@@ -1,15 +1,15 @@
-//! Tests of the calls against each other on random systems: reduce against test and replay,
-//! the two decisions on membership, and the product against multiply.
+//! Tests of the calls against each other on random systems: reduce against test and replay, member
+//! against reduce and ask, the two decisions on membership, and the product against multiply.
 
 use crate::answers::{Answer, DONE, MEMBER, NOT_A_MEMBER};
-use crate::decision::check_decision;
+use crate::decision::{check_ask, check_member};
 use crate::graph::Graph;
 use crate::random::{Kind, Random};
-use crate::records::{freely_reduced, record};
+use crate::records::{freely_reduced, record, RECORD};
 use crate::reduction::{reduction, Reduction};
-use crate::refusals::WORD_TOO_LONG;
+use crate::refusals::{Refusal, SYSTEM_NOT_REDUCED, WORD_TOO_LONG};
 use crate::words::Word;
-use crate::{member, replay, test, tidy, Direction};
+use crate::{ask, member, replay, test, tidy, Direction};
 
 const FILL: u8 = 0xEE;
 
@@ -93,13 +93,72 @@ fn member_against_reduce_graph_and_multiply() {
                 ..reduction.answer
             };
             assert_eq!(answer, expected);
-            let checked = check_decision([&given, &target], [&words, &log, &product], answer);
+            let checked = check_member([&given, &target], [&words, &log, &product], answer);
             assert_eq!(checked, Ok(()));
             counts[usize::from(verdict == MEMBER)] += 1;
             assert!(verdict == MEMBER || (verdict, product) == (NOT_A_MEMBER, [FILL; 64]));
         }
     }
     assert!(counts[0] > 2000 && counts[1] > 2000, "{counts:?}");
+}
+
+/// The answer of a call that gives a verdict alone.
+fn verdict_alone(verdict: u64) -> Answer {
+    Answer {
+        verdict,
+        ..Answer::default()
+    }
+}
+
+/// Member gives what reduce and ask in turn give, however the reduced words are spelled.
+#[test]
+fn member_against_reduce_and_ask_in_turn() {
+    let mut random = Random::new(14);
+    for _ in 0..500 {
+        let (given, generators) = random_system(&mut random);
+        let words_given = freely_reduced(&given);
+        let reduction = reduction(&given);
+        let reduced = freely_reduced(&reduction.words);
+        for _ in 0..3 {
+            let target = record(random_target(&mut random, words_given.words(), generators));
+            let mut words = vec![FILL; given.len()];
+            let mut log = vec![FILL; reduction.log.len()];
+            let mut product = [FILL; RECORD + 1];
+            let answer = member(&given, &target, &mut words, &mut log, &mut product);
+            let spelled = random.unreduced_system(reduced.words(), generators);
+            for system in [&reduction.words, &spelled] {
+                let mut asked = [FILL; RECORD + 1];
+                let asked_answer = ask(system, &target, &mut asked);
+                assert_eq!(asked_answer, verdict_alone(answer.verdict));
+                assert_eq!(asked, product);
+                let checked = check_ask([system, &target], [&asked], asked_answer);
+                assert_eq!(checked, Ok(()));
+            }
+        }
+    }
+}
+
+/// Ask refuses a well-formed system just where test finds it not reduced.
+#[test]
+fn ask_against_test() {
+    let mut random = Random::new(15);
+    let mut counts = [0; 2];
+    for _ in 0..1000 {
+        let (given, generators) = random_system(&mut random);
+        let target = record(random_target(&mut random, &[], generators));
+        let mut product = [FILL; RECORD];
+        let answer = ask(&given, &target, &mut product);
+        let reduced = test(&given).reduced == 1;
+        counts[usize::from(reduced)] += 1;
+        if reduced {
+            assert_eq!(answer, verdict_alone(answer.verdict));
+            assert!([MEMBER, NOT_A_MEMBER].contains(&answer.verdict));
+        } else {
+            let not_reduced = Answer::refused(Refusal::new(SYSTEM_NOT_REDUCED, 0));
+            assert_eq!((answer, product), (not_reduced, [FILL; RECORD]));
+        }
+    }
+    assert!(counts[0] > 200 && counts[1] > 200, "{counts:?}");
 }
 
 /// Anybody's log, run forward and then backward, leads back to the freely reduced words.

@@ -1,16 +1,36 @@
-//! What member decides, checked in another way than it decides: against the folded graph, and a
-//! member's product by multiplying it out again.
+//! What ask and member decide, checked in another way than they decide: against the folded graph,
+//! and a member's product by multiplying it out again.
 
 use crate::answers::{Answer, MEMBER};
 use crate::graph::traces;
 use crate::records::{freely_reduced, record, slot_named, RECORD};
 use crate::{multiply, tidy};
 
+/// Checks the decision of a call of ask that was not refused, given the system and the target, what
+/// stands in the product buffer, and the answer.
+pub fn check_ask(
+    [system, target]: [&[u8]; 2],
+    [product]: [&[u8]; 1],
+    answer: Answer,
+) -> Result<(), &'static str> {
+    check_decision([system, target], [system, product], answer)
+}
+
 /// Checks the decision of a call of member that was not refused, given the system and the target,
 /// what stands in the words buffer, the log and the product buffer, and the answer.
-pub fn check_decision(
+pub fn check_member(
     [system, target]: [&[u8]; 2],
     [words, _, product]: [&[u8]; 3],
+    answer: Answer,
+) -> Result<(), &'static str> {
+    check_decision([system, target], [&words[..system.len()], product], answer)
+}
+
+/// Checks a verdict by the folded graph of the system, and a member's product over the words that it
+/// is a product of.
+fn check_decision(
+    [system, target]: [&[u8]; 2],
+    [words, product]: [&[u8]; 2],
     answer: Answer,
 ) -> Result<(), &'static str> {
     let target = freely_reduced(target).words()[0];
@@ -21,7 +41,7 @@ pub fn check_decision(
     if !member {
         return Ok(());
     }
-    let (words, product) = (&words[..system.len()], &product[..RECORD]);
+    let product = &product[..RECORD];
     let mut tidied = [0; RECORD];
     if tidy(product, &mut tidied) != Answer::done() || tidied != product {
         return Err("the product is not freely reduced");

@@ -1,11 +1,13 @@
 //! Subgroups of free groups: Nielsen reduction, membership and what goes with them.
 //! A plain Rust version, written from the requirements alone (docs/REQUIREMENTS.md), to compare the
 //! proved library with. All that judges is the plain reading of them; quick_search.rs serves timing.
-//! The calls are tidy, reduce, test, member, replay, multiply and show.
+//! The calls are tidy, reduce, test, ask, member, replay, multiply and show.
 
 pub mod answers;
+pub mod asking;
 pub mod decision;
 pub mod elements;
+pub mod factoring;
 pub mod graph;
 pub mod measured;
 pub mod membership;
@@ -31,6 +33,7 @@ mod consistency;
 mod refusal_tests;
 
 pub use answers::Answer;
+pub use asking::ask;
 pub use membership::member;
 pub use multiply::multiply;
 pub use reducedness::test;

@@ -3,6 +3,7 @@
 //! that the plain search of reduction.rs finds.
 
 use crate::answers::Answer;
+use crate::asking::ask_by;
 use crate::membership::member_by;
 use crate::moves::{Form, Move};
 use crate::records::MOST_RECORDS;
@@ -155,9 +156,19 @@ pub fn reduce([system]: [&[u8]; 1], [words, log]: [&mut [u8]; 2]) -> Answer {
     reduce_by(|words| table.next_move(words), system, words, log)
 }
 
+/// Whether the quick search finds no move, as in a reduced system.
+fn finds_no_move(words: &[Word]) -> bool {
+    Table::default().next_move(words).is_none()
+}
+
 /// Says what test says, by whether the quick search finds a move.
 pub fn test([system]: [&[u8]; 1], []: [&mut [u8]; 0]) -> Answer {
-    test_by(|words| Table::default().next_move(words).is_none(), system)
+    test_by(finds_no_move, system)
+}
+
+/// Does what ask does, by whether the quick search finds a move.
+pub fn ask(inputs: [&[u8]; 2], buffers: [&mut [u8]; 1]) -> Answer {
+    ask_by(finds_no_move, inputs, buffers)
 }
 
 /// Does what member does, by the quick search.

@@ -198,6 +198,12 @@ impl Random {
         letters
     }
 
+    /// A system whose records are freely reduced to these words and have pairs that cancel in between.
+    pub fn unreduced_system(&mut self, words: &[Word], generators: usize) -> Vec<u8> {
+        let spelling = |word: &Word| record(self.unreduced(word.letters(), generators));
+        words.iter().flat_map(spelling).collect()
+    }
+
     /// A system of beginnings of a few long words, each followed by the inverse of another one.
     pub fn system_of_shared_beginnings(&mut self, generators: usize, records: usize) -> Vec<u8> {
         let longest = self.between(2, LONGEST / 2);

@@ -79,6 +79,14 @@ pub fn check_room_for_words(words: &[u8], records: usize) -> Result<(), Refusal>
     Ok(())
 }
 
+/// Checks that a product buffer has room for a record, by rule 11.
+pub fn check_room_for_product(product: &[u8]) -> Result<(), Refusal> {
+    if product.len() < RECORD {
+        return Err(Refusal::new(PRODUCT_BUFFER_SHORT, 0));
+    }
+    Ok(())
+}
+
 /// The slot that a letter names, if it is one of this many slots.
 pub fn slot_named(letter: u8, slots: usize) -> Option<usize> {
     let slot = usize::from(letter.checked_sub(b'a')?);

@@ -1,10 +1,10 @@
 //! Tests of every refusal in every call that can give it: number, place and untouched buffers.
 //! Two faults at once show the order in which they are tried.
 
-use crate::answers::{Answer, DONE};
+use crate::answers::{Answer, DONE, MEMBER, NOT_A_MEMBER};
 use crate::records::{record, system};
 use crate::refusals::*;
-use crate::{member, multiply, reduce, replay, show, test, tidy, Direction};
+use crate::{ask, member, multiply, reduce, replay, show, test, tidy, Direction};
 
 const FILL: u8 = 0xEE;
 
@@ -20,6 +20,7 @@ fn every_call_refuses(given: &[u8], number: u64, place: usize) {
     assert_eq!(tidy(given, &mut words), expected);
     assert_eq!(reduce(given, &mut words, &mut log), expected);
     assert_eq!(test(given), expected);
+    assert_eq!(ask(given, b"bad", &mut product), expected);
     let answer = member(given, b"bad", &mut words, &mut log, &mut product);
     assert_eq!(answer, expected);
     for direction in Direction::BOTH {
@@ -74,7 +75,7 @@ fn malformed_records() {
     every_call_refuses(&given, NO_LINE_FEED, 127);
 }
 
-/// Refusal 6 of target and product, before 9, 10 and 11.
+/// Refusal 6 of target and product, before 9, 10, 11 and 15.
 #[test]
 fn malformed_targets() {
     let given = system(&["ab", "b"]);
@@ -94,6 +95,9 @@ fn malformed_targets() {
             "{bytes:?}"
         );
         assert_eq!(multiply(&given, &bytes, &mut []), expected, "{bytes:?}");
+        for given in [system(&["ab", "b"]), system(&["ab", "c"])] {
+            assert_eq!(ask(&given, &bytes, &mut []), expected, "{bytes:?}");
+        }
     }
 }
 
@@ -151,6 +155,71 @@ fn missing_slots() {
     assert_eq!(multiply(&[], &record(""), &mut word), Answer::done());
     assert_eq!(word[..64], record(""));
     assert_eq!(word[64], FILL);
+}
+
+/// What ask answers for a target given as text, with the product buffer of this length after it.
+fn asked(texts: &[&str], target: &str, length: usize) -> (Answer, Vec<u8>) {
+    let mut product = vec![FILL; length];
+    let answer = ask(&system(texts), &record(target), &mut product);
+    (answer, product)
+}
+
+/// Refusal 15 of ask, before 11, and 11 where the system is reduced; both leave the product buffer.
+#[test]
+fn systems_not_reduced() {
+    let not_reduced: [&[&str]; 6] = [
+        &["ab", "b"],
+        &["ab", "", "ab"],
+        &["ab", "BA"],
+        &["ab", "acb"],
+        &["ab", "ac", "Bd"],
+        &["aAab", "bBb"],
+    ];
+    for length in [0, 1, 63, 64, 65, 130] {
+        let untouched = vec![FILL; length];
+        for given in not_reduced {
+            for target in ["", "ab", "d"] {
+                let expected = (refused(SYSTEM_NOT_REDUCED, 0), untouched.clone());
+                assert_eq!(asked(given, target, length), expected, "{given:?}");
+            }
+        }
+        if length < 64 {
+            let expected = (refused(PRODUCT_BUFFER_SHORT, 0), untouched.clone());
+            assert_eq!(asked(&["ab", "ac", "ad"], "Cd", length), expected);
+            assert_eq!(asked(&[], "a", length), expected);
+        }
+    }
+}
+
+/// Ask passes over blank slots and freely reduces words first; only 64 bytes are written for a member,
+/// and none for others.
+#[test]
+fn systems_reduced_after_free_reduction() {
+    let verdict = |verdict| Answer {
+        verdict,
+        ..Answer::default()
+    };
+    let systems: [&[&str]; 5] = [
+        &["", "ab", "", "ac", "ad"],
+        &["aA", "ab", "bBcC", "ac", "ad"],
+        &["", "aAab", "", "acdD", "aBbd"],
+        &["Zz", "cCab", "", "ac", "adzZ"],
+        &["", "ab", "", "ac", "ad", "", "xX"],
+    ];
+    for given in systems {
+        for target in ["Cd", "aACd", "CaAd", "CdbB"] {
+            let (answer, product) = asked(given, target, 65);
+            assert_eq!(answer, verdict(MEMBER), "{given:?}");
+            assert_eq!(product[..64], record("De"), "{given:?}");
+            assert_eq!(product[64], FILL);
+        }
+        let expected = (verdict(NOT_A_MEMBER), vec![FILL; 65]);
+        assert_eq!(asked(given, "d", 65), expected, "{given:?}");
+    }
+    assert_eq!(asked(&["aAb"], "bb", 64).1, record("aa"));
+    assert_eq!(asked(&[], "", 64), (verdict(MEMBER), record("").to_vec()));
+    let expected = (verdict(NOT_A_MEMBER), vec![FILL; 64]);
+    assert_eq!(asked(&["", "aA"], "a", 64), expected);
 }
 
 /// Refusals 10 and 11, with 10 before 11 and both before 12 and 13.

@@ -14,6 +14,7 @@ pub const WORDS_BUFFER_SHORT: u64 = 10;
 pub const PRODUCT_BUFFER_SHORT: u64 = 11;
 pub const WORD_TOO_LONG: u64 = 12;
 pub const LOG_BUFFER_SHORT: u64 = 13;
+pub const SYSTEM_NOT_REDUCED: u64 = 15;
 
 /// A refusal's number and place.
 #[derive(Clone, Copy, Debug, PartialEq, Eq)]

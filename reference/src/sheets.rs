@@ -131,11 +131,11 @@ pub const SHEETS: [Sheet; 11] = [
 mod tests {
     use super::*;
     use crate::answers::{Answer, DONE, MEMBER, NOT_A_MEMBER, REFUSED};
-    use crate::decision::check_decision;
+    use crate::decision::check_member;
     use crate::records::{record, system};
     use crate::reduction::{reduction, Reduction};
     use crate::refusals::*;
-    use crate::{member, replay, test, tidy, Direction};
+    use crate::{ask, member, replay, test, tidy, Direction};
 
     const FILL: u8 = 0xEE;
 
@@ -191,7 +191,7 @@ mod tests {
         }
     }
 
-    /// Every sheet with a target through member, multiply and the folded graph.
+    /// Every sheet with a target through member, multiply and the folded graph, and ask of its words.
     #[test]
     fn member_sheets() {
         for sheet in &SHEETS {
@@ -210,8 +210,15 @@ mod tests {
             check_reduction(sheet, answer, &words, &log);
             assert_eq!(answer.verdict, verdict, "{}", sheet.name);
             assert_eq!(product, expected, "{}", sheet.name);
-            let checked = check_decision([&given, &target], [&words, &log, &product], answer);
+            let checked = check_member([&given, &target], [&words, &log, &product], answer);
             assert_eq!(checked, Ok(()), "{}", sheet.name);
+            let mut asked = [FILL; 64];
+            let answer = ask(&words, &target, &mut asked);
+            assert_eq!(answer.numbers(), [verdict, 0, 0, 0, 0, 0, 0]);
+            assert_eq!(asked, expected, "{}", sheet.name);
+            let answer = ask(&given, &target, &mut [FILL; 64]);
+            let not_reduced = u64::from(!log.is_empty()) * SYSTEM_NOT_REDUCED;
+            assert_eq!(answer.number, not_reduced, "{}", sheet.name);
         }
     }
 

@@ -1,7 +1,8 @@
 //! Times the proved library against the Rust version, both in one run and by turns. Each line gives
-//! the time of one call on either side and their ratio. For test, reduce and member the Rust side
+//! the time of one call on either side and their ratio. For test, reduce, member and ask the Rust side
 //! goes by the quick search; all else there is the plain version, which is not written for speed.
 
+mod ask;
 #[path = "../compare/entries.rs"]
 mod entries;
 mod member;
@@ -21,4 +22,5 @@ fn main() {
     test::bench();
     reduce::bench();
     member::bench();
+    ask::bench();
 }

@@ -12,10 +12,12 @@ use subgroups_reference::records::{record, MOST_RECORDS, RECORD};
 use subgroups_reference::words::{Word, LONGEST};
 
 const SYSTEMS: usize = 100;
-const TARGETS: usize = 30;
+
+/// How many targets are asked about for one system.
+pub const TARGETS: usize = 30;
 
 /// The lengths of the buffers that are lent: the log is that of the program.
-const LENGTHS: [usize; 3] = [RECORD * MOST_RECORDS, LOG_RECORD * MOST_MOVES, RECORD];
+pub const LENGTHS: [usize; 3] = [RECORD * MOST_RECORDS, LOG_RECORD * MOST_MOVES, RECORD];
 
 /// Member, by the quick search on the Rust side.
 const QUICK_MEMBER: Entry<2, 3> = Entry {
@@ -25,25 +27,38 @@ const QUICK_MEMBER: Entry<2, 3> = Entry {
 
 /// Times systems of several kinds.
 pub fn bench() {
+    for kind in kinds() {
+        compare(&kind);
+    }
+}
+
+/// The kinds of systems that are asked about.
+pub fn kinds() -> Vec<Measured> {
+    let mut kinds = Vec::new();
     for (records, longest) in [(4, LONGEST), (12, 30), (16, LONGEST)] {
         for independent in [true, false] {
-            let kind = Measured {
+            kinds.push(Measured {
                 generators: 3,
                 records,
                 shortest: 5,
                 longest,
                 independent,
-            };
-            compare(&kind);
+            });
         }
     }
+    kinds
+}
+
+/// The name of one of these kinds.
+pub fn name(kind: &Measured) -> String {
+    let dependence = kind.dependence();
+    let (records, longest) = (kind.records, kind.longest);
+    format!("{records} words of 5-{longest} letters, {dependence}")
 }
 
 /// Times systems of one kind with one target and with thirty.
 fn compare(kind: &Measured) {
-    let dependence = kind.dependence();
-    let (records, longest) = (kind.records, kind.longest);
-    let name = format!("member, {records} words of 5-{longest} letters, {dependence}");
+    let name = format!("member, {}", name(kind));
     let systems = kind.systems(SYSTEMS);
     let numbered = systems.iter().enumerate();
     let one = numbered.map(|(number, system)| inputs(kind, system, 2).swap_remove(1 - number % 2));
@@ -62,7 +77,7 @@ fn compare(kind: &Measured) {
 }
 
 /// A system with each of its first targets.
-fn inputs(kind: &Measured, system: &[u8], targets: usize) -> Vec<[Vec<u8>; 2]> {
+pub fn inputs(kind: &Measured, system: &[u8], targets: usize) -> Vec<[Vec<u8>; 2]> {
     let targets = kind.targets(system, targets).into_iter();
     let input = |target: Word| [system.to_vec(), record(target.letters()).to_vec()];
     targets.map(input).collect()

@@ -17,10 +17,17 @@ const VERDICTS: [&str; 3] = ["done", "member", "not a member"];
 pub struct Seen {
     pub calls: u64,
     verdicts: [u64; 3],
-    refusals: [u64; 14],
+    refusals: [u64; 16],
     /// How many systems were reduced.
     pub reduced: u64,
     pub most_moves: u64,
+}
+
+impl Seen {
+    /// How many calls were not refused.
+    pub fn not_refused(&self) -> u64 {
+        self.verdicts.iter().sum()
+    }
 }
 
 /// Another check of a call that was not refused, on what the Rust version was lent and has left.
@@ -122,8 +129,7 @@ impl<const INPUTS: usize, const BUFFERS: usize> Comparison<INPUTS, BUFFERS> {
     fn check(&mut self) {
         let mut pairs = self.inputs.iter().chain(&self.buffers);
         let same_bytes = pairs.all(|pair| pair.difference().is_none());
-        let same_numbers = self.proved.numbers == self.rust.numbers();
-        if !same_numbers || !same_bytes || !self.proved.alone_written() {
+        if !same_bytes || !self.proved.holds_just(self.rust) {
             self.end_with("the two sides disagree");
         }
         if let Some(check) = self.another_check.filter(|_| self.rust.verdict != REFUSED) {

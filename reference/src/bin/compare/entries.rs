@@ -45,6 +45,15 @@ extern "C" {
         log_len: usize,
         answer: *mut Numbers,
     );
+    fn subgroups_ask(
+        system: *const u8,
+        system_len: usize,
+        target: *const u8,
+        target_len: usize,
+        product: *mut u8,
+        product_len: usize,
+        answer: *mut Numbers,
+    );
     fn subgroups_member(
         system: *const u8,
         system_len: usize,
@@ -61,11 +70,11 @@ extern "C" {
 }
 
 /// A call of the proved library.
-type ProvedCall<const INPUTS: usize, const BUFFERS: usize> =
+pub type ProvedCall<const INPUTS: usize, const BUFFERS: usize> =
     fn([&[u8]; INPUTS], [&mut [u8]; BUFFERS], &mut Numbers);
 
 /// A call of the Rust version.
-type RustCall<const INPUTS: usize, const BUFFERS: usize> =
+pub type RustCall<const INPUTS: usize, const BUFFERS: usize> =
     fn([&[u8]; INPUTS], [&mut [u8]; BUFFERS]) -> Answer;
 
 /// One entry on both sides, with its number of inputs and its number of buffers that are written.
@@ -150,6 +159,22 @@ pub const REDUCE: Entry<1, 2> = Entry {
         );
     },
     rust: |[system], [words, log]| reference::reduce(system, words, log),
+};
+
+/// Ask: the system and the target; the product buffer.
+pub const ASK: Entry<2, 1> = Entry {
+    proved: |[system, target], [product], answer| unsafe {
+        subgroups_ask(
+            system.as_ptr(),
+            system.len(),
+            target.as_ptr(),
+            target.len(),
+            product.as_mut_ptr(),
+            product.len(),
+            answer,
+        );
+    },
+    rust: |[system, target], [product]| reference::ask(system, target, product),
 };
 
 /// Member: the system and the target; the words buffer, the log and the product buffer.

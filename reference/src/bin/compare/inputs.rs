@@ -1,11 +1,11 @@
 //! Inputs shared by the comparisons of the entries: the sheets, lengths around every limit,
-//! damaged records, systems with two faults at once, and random systems of many kinds.
+//! damaged records, systems with two faults at once, and random systems and targets of many kinds.
 
 use subgroups_reference::random::{Kind, Random};
-use subgroups_reference::records::{record, system, MOST_RECORDS, RECORD};
+use subgroups_reference::records::{freely_reduced, record, system, MOST_RECORDS, RECORD};
 use subgroups_reference::sheets::{SHEETS, TIDY};
 use subgroups_reference::small;
-use subgroups_reference::words::LONGEST;
+use subgroups_reference::words::{Word, LONGEST};
 
 /// The numbers of generators over which random systems are made.
 pub const GENERATORS: [usize; 5] = [1, 2, 3, 5, 26];
@@ -208,7 +208,12 @@ pub fn for_each_small_system(mut lend: impl FnMut(&[u8])) {
 /// A well-formed system of a one-letter word, a word of 63 letters and two short ones, then the
 /// same broken by each of the rules 1 to 5 and by two of them at once.
 pub fn sound_and_refused_systems() -> Vec<Vec<u8>> {
-    let sound = system(&["b", &"a".repeat(RECORD - 1), "a", "cB"]);
+    broken_systems(system(&["b", &"a".repeat(LONGEST), "a", "cB"]))
+}
+
+/// A well-formed system of four words, short ones and a second one of 63 letters, then the same
+/// broken by each of the rules 1 to 5 and by two of them at once.
+pub fn broken_systems(sound: Vec<u8>) -> Vec<Vec<u8>> {
     let faults = [
         (RECORD - 1, b'.'),
         (7, b'?'),
@@ -259,6 +264,79 @@ pub fn random_system(random: &mut Random, generators: usize) -> Vec<u8> {
     let records = random.below(MOST_RECORDS + 1);
     let kind = Kind::ALL[random.below(Kind::ALL.len())];
     random.system(kind, generators, records, shortest, longest)
+}
+
+/// A target for a system: a product of the given or the reduced words, one like it, or any word.
+pub fn any_target(
+    random: &mut Random,
+    given: &[Word],
+    reduced: &[Word],
+    generators: usize,
+) -> Vec<u8> {
+    let most_factors = [3, 10, 40, 200][random.below(4)];
+    let factors = random.below(most_factors);
+    let words = if random.below(2) == 0 { given } else { reduced };
+    let product = random.product(words, factors);
+    let length = random.below(LONGEST + 1);
+    let word = match random.below(10) {
+        0 => return random.cancelling_letters(generators, length),
+        1 => Word::freely_reduced(&random.reduced_letters(generators, length)),
+        2 | 3 => random.one_letter_changed(&product, generators),
+        4 => Word::freely_reduced(&product.letters()[..product.len().min(length)]),
+        5 => product_of_halves(random, reduced, factors),
+        _ => product,
+    };
+    match random.below(4) {
+        0 => random.unreduced(word.letters(), generators),
+        _ => word.letters().to_vec(),
+    }
+}
+
+/// A product of words in which a factor's end may be cut off at its half.
+fn product_of_halves(random: &mut Random, words: &[Word], factors: usize) -> Word {
+    let mut product = Word::EMPTY;
+    for _ in 0..factors {
+        if words.is_empty() {
+            break;
+        }
+        let factor = random.factor(words);
+        let kept = match random.below(6) {
+            0 => factor.len() / 2,
+            _ => factor.len(),
+        };
+        let factor = Word::freely_reduced(&factor.letters()[..kept]);
+        product = product.times(&factor).unwrap_or(product);
+    }
+    product
+}
+
+/// A reduced system with a letter changed, or a word replaced by a product, an inverse or a part;
+/// nothing where it has no word.
+pub fn changed_systems(random: &mut Random, words: &[u8], generators: usize) -> Vec<Vec<u8>> {
+    let reduced = freely_reduced(words);
+    if words.is_empty() {
+        return Vec::new();
+    }
+    let slot = random.below(reduced.count());
+    let word = reduced.words()[slot];
+    let other = reduced.words()[random.below(reduced.count())];
+    let half = &word.letters()[..word.len() / 2];
+    let replacements = [
+        random.one_letter_changed(&word, generators),
+        random.product(reduced.words(), 2),
+        word.inverse(),
+        other,
+        other.inverse(),
+        Word::freely_reduced(&[half, &other.letters()[other.len() / 2..]].concat()),
+        Word::freely_reduced(half),
+    ];
+    let changed = |replacement: Word| {
+        let mut changed = words.to_vec();
+        let letters = random.unreduced(replacement.letters(), generators);
+        changed[RECORD * slot..RECORD * (slot + 1)].copy_from_slice(&record(letters));
+        changed
+    };
+    replacements.map(changed).to_vec()
 }
 
 /// Damages bytes in a few random places: any byte, one bit, or a telling byte.

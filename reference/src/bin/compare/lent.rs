@@ -2,6 +2,7 @@
 //! of bytes that no call writes, so that every byte written or left alone is seen.
 
 use crate::entries::Numbers;
+use subgroups_reference::Answer;
 
 /// The length of the margin on either side of the lent part.
 const MARGIN: usize = 64;
@@ -17,6 +18,13 @@ pub struct Lent {
 }
 
 impl Lent {
+    /// A buffer filled with the pattern, with a lent part of this length.
+    pub fn filled(length: usize) -> Lent {
+        let mut lent = Lent::default();
+        lent.fill(length);
+        lent
+    }
+
     /// Fills the buffer with the pattern and sets the length of the lent part.
     fn fill(&mut self, length: usize) {
         self.bytes.resize(length + 2 * MARGIN, 0);
@@ -34,6 +42,12 @@ impl Lent {
     /// The lent part.
     pub fn part(&self) -> &[u8] {
         &self.bytes[MARGIN..MARGIN + self.length]
+    }
+
+    /// Whether these bytes stand in the lent part and nothing is written beside it.
+    pub fn holds_just(&self, bytes: &[u8]) -> bool {
+        let mut beside = (0..MARGIN).chain(MARGIN + self.length..self.bytes.len());
+        self.part() == bytes && beside.all(|place| self.bytes[place] == pattern(place))
     }
 }
 
@@ -95,6 +109,11 @@ impl LentAnswer {
             numbers: [UNWRITTEN; 7],
             after: UNWRITTEN,
         }
+    }
+
+    /// Whether the library has written the numbers of this answer and nothing beside them.
+    pub fn holds_just(&self, answer: Answer) -> bool {
+        self.numbers == answer.numbers() && self.alone_written()
     }
 
     /// Whether the numbers on either side are as they were.

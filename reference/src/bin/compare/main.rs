@@ -1,8 +1,10 @@
 //! Compares the proved library with the Rust version, call by call and byte by byte.
 //! The inputs are the same in every run; the last line says how many calls agreed.
 
+mod ask;
 mod comparison;
 mod entries;
+mod in_turn;
 mod inputs;
 mod lent;
 mod member;
@@ -19,6 +21,7 @@ fn main() {
         + multiply::compare()
         + test::compare()
         + reduce::compare()
+        + ask::compare()
         + member::compare();
     println!("compared {calls} calls: all agree");
 }

@@ -1,11 +1,12 @@
 //! The inputs on which member is compared: targets that are products, that just fail to be, and any
-//! others. Where a call is not refused the verdict is checked against the folded graph too, and a
-//! member's product is multiplied out again.
+//! others. Where a call is not refused the verdict is checked against the folded graph too, a
+//! member's product is multiplied out again, and reduce and ask in turn must give the same.
 
 use crate::comparison::Comparison;
 use crate::entries::MEMBER;
+use crate::in_turn::check_in_turn;
 use crate::inputs::*;
-use subgroups_reference::decision::check_decision;
+use subgroups_reference::decision::check_member;
 use subgroups_reference::moves::LOG_RECORD;
 use subgroups_reference::random::Random;
 use subgroups_reference::records::{freely_reduced, record, system, MOST_RECORDS, RECORD};
@@ -13,7 +14,7 @@ use subgroups_reference::reduction::reduction;
 use subgroups_reference::refusals::*;
 use subgroups_reference::sheets::{Target, SHEETS};
 use subgroups_reference::small;
-use subgroups_reference::words::{Word, LONGEST};
+use subgroups_reference::words::LONGEST;
 
 /// The comparison of member: the system and the target; the words buffer, the log and the product buffer.
 type Member = Comparison<2, 3>;
@@ -23,7 +24,10 @@ pub fn compare() -> u64 {
     let inputs = ["system", "target"];
     let buffers = ["words buffer", "log", "product buffer"];
     let calls = &mut Member::new("member", MEMBER, inputs, buffers);
-    calls.another_check = Some(check_decision);
+    calls.another_check = Some(|inputs, buffers, answer| {
+        check_member(inputs, buffers, answer)?;
+        check_in_turn(inputs, buffers, answer)
+    });
     sheets(calls);
     for_each_length(|system| call_letters(calls, system, b"aa", 100));
     for_each_malformed_system(|system| call_letters(calls, system, b"abA", 1000));
@@ -37,12 +41,15 @@ pub fn compare() -> u64 {
     small_systems(calls);
     powers(calls);
     random_targets(calls);
-    calls.end(&[
+    let count = calls.end(&[
         TARGET_OR_PRODUCT_MALFORMED,
         WORDS_BUFFER_SHORT,
         PRODUCT_BUFFER_SHORT,
         LOG_BUFFER_SHORT,
-    ])
+    ]);
+    let not_refused = calls.seen.not_refused();
+    println!("member: {not_refused} of these calls agree with reduce and ask in turn");
+    count
 }
 
 /// The lengths of the words buffer, the log and the product buffer that member needs.
@@ -137,45 +144,6 @@ fn powers(calls: &mut Member) {
         }
         call_letters(calls, &given, b"abA", any_room(&mut random, log));
     }
-}
-
-/// A target for a system: a product of the given or the reduced words, one like it, or any word.
-fn any_target(random: &mut Random, given: &[Word], reduced: &[Word], generators: usize) -> Vec<u8> {
-    let most_factors = [3, 10, 40, 200][random.below(4)];
-    let factors = random.below(most_factors);
-    let words = if random.below(2) == 0 { given } else { reduced };
-    let product = random.product(words, factors);
-    let length = random.below(LONGEST + 1);
-    let word = match random.below(10) {
-        0 => return random.cancelling_letters(generators, length),
-        1 => Word::freely_reduced(&random.reduced_letters(generators, length)),
-        2 | 3 => random.one_letter_changed(&product, generators),
-        4 => Word::freely_reduced(&product.letters()[..product.len().min(length)]),
-        5 => product_of_halves(random, reduced, factors),
-        _ => product,
-    };
-    match random.below(4) {
-        0 => random.unreduced(word.letters(), generators),
-        _ => word.letters().to_vec(),
-    }
-}
-
-/// A product of words in which a factor's end may be cut off at its half.
-fn product_of_halves(random: &mut Random, words: &[Word], factors: usize) -> Word {
-    let mut product = Word::EMPTY;
-    for _ in 0..factors {
-        if words.is_empty() {
-            break;
-        }
-        let factor = random.factor(words);
-        let kept = match random.below(6) {
-            0 => factor.len() / 2,
-            _ => factor.len(),
-        };
-        let factor = Word::freely_reduced(&factor.letters()[..kept]);
-        product = product.times(&factor).unwrap_or(product);
-    }
-    product
 }
 
 /// Random systems of all kinds, each with several targets and any room, and damaged ones.

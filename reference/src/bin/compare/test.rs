@@ -5,7 +5,7 @@ use crate::comparison::Comparison;
 use crate::entries::TEST;
 use crate::inputs::*;
 use subgroups_reference::random::Random;
-use subgroups_reference::records::{freely_reduced, record, system, RECORD};
+use subgroups_reference::records::{record, system, RECORD};
 use subgroups_reference::reduction::reduction;
 use subgroups_reference::small;
 use subgroups_reference::words::Word;
@@ -120,38 +120,13 @@ fn random_systems(calls: &mut Test) {
             calls.call([&given], []);
             let words = reduction(&given).words;
             calls.call([&words], []);
-            changed_systems(calls, &mut random, &words, generators);
+            for changed in changed_systems(&mut random, &words, generators) {
+                calls.call([&changed], []);
+            }
             if round % 8 == 0 {
                 damage(&mut random, &mut given);
                 calls.call([&given], []);
             }
         }
-    }
-}
-
-/// A reduced system with a letter changed, a word replaced by a product, an inverse or a part.
-fn changed_systems(calls: &mut Test, random: &mut Random, words: &[u8], generators: usize) {
-    let reduced = freely_reduced(words);
-    if words.is_empty() {
-        return;
-    }
-    let slot = random.below(reduced.count());
-    let word = reduced.words()[slot];
-    let other = reduced.words()[random.below(reduced.count())];
-    let half = &word.letters()[..word.len() / 2];
-    let replacements = [
-        random.one_letter_changed(&word, generators),
-        random.product(reduced.words(), 2),
-        word.inverse(),
-        other,
-        other.inverse(),
-        Word::freely_reduced(&[half, &other.letters()[other.len() / 2..]].concat()),
-        Word::freely_reduced(half),
-    ];
-    for replacement in replacements {
-        let mut changed = words.to_vec();
-        let letters = random.unreduced(replacement.letters(), generators);
-        changed[RECORD * slot..RECORD * (slot + 1)].copy_from_slice(&record(letters));
-        calls.call([&changed], []);
     }
 }
