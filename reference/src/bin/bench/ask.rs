@@ -1,11 +1,8 @@
 //! Times thirty targets against one system by one reduce and thirty asks of the reduced words, and
-//! beside it by thirty calls of member. Then times tidy, test, reduce and ask on the same reduced
-//! systems, which tells what the parts of one question cost.
+//! beside it by thirty calls of member. Then times one question to a reduced system in parts.
 
-use crate::entries::{Entry, Numbers, ASK, MEMBER, REDUCE, TIDY};
+use crate::entries::{Entry, Numbers, ASK, MEMBER, REDUCE};
 use crate::member::{inputs, kinds, name, LENGTHS, TARGETS};
-use crate::reduce::QUICK_REDUCE;
-use crate::test::QUICK_TEST;
 use crate::timing::{line, proved_side, rust_side, shortest_times, time};
 use std::hint::black_box;
 use subgroups_reference::measured::Measured;
@@ -113,23 +110,35 @@ fn compare(name: &str, kind: &Measured, systems: Vec<Vec<u8>>) {
     );
 }
 
-/// Times tidy, test, reduce and ask on the reduced systems of a kind, each as often as there are targets:
-/// all of them read and freely reduce the words, tidy and reduce write them, test, reduce and ask look
-/// for a move, and ask factors a target.
+/// A system with one of its words in its first two slots, where the first pair of slots shortens.
+fn with_twins(system: &[u8]) -> Vec<u8> {
+    let mut records = system.chunks_exact(RECORD);
+    let twin = records.find(|record| record[0].is_ascii_alphabetic());
+    let twin = twin.expect("a word that is not empty");
+    [twin, twin, &system[2 * RECORD..]].concat()
+}
+
+/// Times a question to reduced systems as far as it goes before each of its ends: a target of no bytes
+/// is refused once the records are checked, a system whose first pair shortens once its words are
+/// freely reduced, a product buffer that is too short once they are found reduced, and a whole
+/// question factors the target.
 fn parts(kind: &Measured) {
     let systems = systems_with_moves(kind);
     let reduced = systems.iter().map(|system| reduction(system).words);
     let asked = reduced.flat_map(|words| inputs(kind, &words, TARGETS));
     let asked: Vec<[Vec<u8>; 2]> = asked.collect();
-    let alone = asked.iter().map(|[words, _]| [words.clone()]);
-    let alone: Vec<[Vec<u8>; 1]> = alone.collect();
-    let [words, log, product] = LENGTHS;
-    for (call, times) in [
-        ("tidy", time(TIDY, &alone, [words])),
-        ("test", time(QUICK_TEST, &alone, [])),
-        ("reduce", time(QUICK_REDUCE, &alone, [words, log])),
-        ("ask", time(QUICK_ASK, &asked, [product])),
+    let each = |change: fn(&[Vec<u8>; 2]) -> [Vec<u8>; 2]| -> Vec<[Vec<u8>; 2]> {
+        asked.iter().map(change).collect()
+    };
+    let no_target = each(|[words, _]| [words.clone(), Vec::new()]);
+    let twins = each(|[words, target]| [with_twins(words), target.clone()]);
+    for (part, inputs, room) in [
+        ("records checked", &no_target, RECORD),
+        ("and freely reduced", &twins, RECORD),
+        ("and found reduced", &asked, RECORD - 1),
+        ("and factored", &asked, RECORD),
     ] {
-        line(&format!("{call}, {}, reduced before", name(kind)), times);
+        let name = format!("ask, {}, {part}", name(kind));
+        line(&name, time(QUICK_ASK, inputs, [room]));
     }
 }

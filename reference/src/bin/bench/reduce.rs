@@ -16,7 +16,7 @@ use subgroups_reference::words::LONGEST;
 const SYSTEMS: usize = 200;
 
 /// Reduce, by the quick search on the Rust side.
-pub const QUICK_REDUCE: Entry<1, 2> = Entry {
+const QUICK_REDUCE: Entry<1, 2> = Entry {
     rust: quick_search::reduce,
     ..REDUCE
 };

@@ -11,7 +11,7 @@ use subgroups_reference::words::LONGEST;
 const SYSTEMS: usize = 64;
 
 /// Test, by the quick search on the Rust side.
-pub const QUICK_TEST: Entry<1, 0> = Entry {
+const QUICK_TEST: Entry<1, 0> = Entry {
     rust: quick_search::test,
     ..TEST
 };
