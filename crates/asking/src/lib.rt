@@ -58,7 +58,11 @@ fn check_question(system: &[u8], target: &[u8]) -> Checked
     let Checked::Fine = checked else {
         return checked;
     };
-    check_target(target)
+    let targeted = check_target(target);
+    let Checked::Fine = targeted else {
+        return targeted;
+    };
+    Checked::Fine
 }
 
 // Refusals 15 and 11: the words held in arrays are reduced, and the product has room.
@@ -71,7 +75,11 @@ fn check_ready(letters: &[u8], lengths: &[usize], n: usize, room: usize) -> Chec
     let Checked::Fine = checked else {
         return checked;
     };
-    check_that(room >= RECORD, PRODUCT_BUFFER_SHORT, 0)
+    let roomy = check_that(room >= RECORD, PRODUCT_BUFFER_SHORT, 0);
+    let Checked::Fine = roomy else {
+        return roomy;
+    };
+    Checked::Fine
 }
 
 // The verdict on a target over reduced words held in arrays, with the product of a member in the lent buffer.

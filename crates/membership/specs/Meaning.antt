@@ -41,7 +41,8 @@ pub record MemberMeans (given target words log product : List ℕ) (answer : Red
   pub decides : Answered (answer .verdict) → Decides given target (take (slots given * 64) words′) (take 64 product′) (answer .verdict)
   pub reduces : Answered (answer .verdict) → Reduces given (take (slots given * 64) words′) (take (answer .moves * moveSize) log′) answer
 
--- "what the two in turn give: words, log and numbers are those of reduce, verdict and product those of asking the words that reduce wrote"
+-- "what reduce and ask in turn give: words, log and numbers are those of reduce, verdict and product those of asking the words that reduce
+-- wrote"
 pub record InTurn (given target words log product : List ℕ) (answer : Reduction) (words′ log′ product′ : List ℕ) : Type 0 where
   pub reduced : reduceAnswer given words log
       ≡ record { verdict = Done; moves = answer .moves; rank = answer .rank; independent = answer .independent }
