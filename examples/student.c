@@ -1,5 +1,5 @@
-/* Walks a student's exercise as a service does it: the system is reduced once, its reduced words are kept, and they are asked about
- * thirty targets. Each product is multiplied out over the reduced words, as a reader would do it by hand. */
+/* Walks a student's exercise as a service does it: the system is reduced once, its reduced words are kept, and they are asked
+ * about thirty targets. Each product is multiplied out over the reduced words, as a reader would do it by hand. */
 #include <stdio.h>
 
 #include "records.h"

@@ -40,8 +40,9 @@
  *            A buffer that is written (words, log, product, word, answer) must not overlap any other; buffers that are only
  *            read may. Where a length is 0 its pointer may be anything, NULL too; answer must not be NULL.
  *
- * Targets    A service with many targets for one system calls reduce once, keeps the reduced words, and calls ask with them for
- *            each target. Member does both for one target, and gives what the two in turn give.
+ * Targets    A service with many targets for one system calls reduce once, keeps the reduced words (64 bytes for each record of
+ *            the system), and calls ask with those bytes for each target. Member does both for one target, and gives what the
+ *            two in turn give.
  *
  * Threads    The library keeps nothing between calls and allocates nothing. Calls may run side by side in any number of
  *            threads, as long as no call writes a buffer that another one uses.
@@ -91,8 +92,8 @@ enum subgroups_verdict {
 };
 
 /* Why a call refuses: answer.number. Each call tests the refusals that stand at it below, in the order in which they stand
- * there, 3 to 5 record by record, and gives the first. answer.place is 0 where nothing else is said here; a place that is a byte
- * counts from 0 at the beginning of its buffer. 14 belongs to a call that has no entry for C. */
+ * there, 3 to 5 record by record, and gives the first. answer.place is 0 where nothing else is said here; a place that is a
+ * byte counts from 0 at the beginning of its buffer. 14 belongs to a call that has no entry for C. */
 enum subgroups_refusal {
     SUBGROUPS_SYSTEM_UNEVEN = 1,               /* the system's length is not a multiple of 64 */
     SUBGROUPS_TOO_MANY_RECORDS = 2,            /* the system has more than 16 records */
@@ -147,13 +148,13 @@ void subgroups_multiply(const uint8_t *system, size_t system_len, const uint8_t 
                         uint8_t *word, size_t word_len, subgroups_answer *answer);
 
 /* Asks a system that is reduced after free reduction, such as the words that reduce writes, about a target: gives the verdict
- * member or not a member, and no number but those of a refusal; for a member it writes the product over the freely reduced words
- * that comes to the freely reduced target, and otherwise leaves product alone. Refusals 1 to 5, 6, 15 and 11, in this order. */
+ * member or not a member, and no number but those of a refusal; for a member it writes the product over the freely reduced
+ * words that comes to the freely reduced target, and otherwise leaves product alone. Refusals 1 to 5, 6, 15 and 11. */
 void subgroups_ask(const uint8_t *system, size_t system_len, const uint8_t *target, size_t target_len,
                    uint8_t *product, size_t product_len, subgroups_answer *answer);
 
-/* Does both for one target: writes all that reduce writes and gives its numbers, with the verdict and the product that ask gives
- * for the words that reduce writes. Refusals 1 to 5, 6, 10, 11 and 13. */
+/* Reduces a system and asks the reduced words about one target: writes all that reduce writes and gives its numbers, with the
+ * verdict and the product that ask gives for the words that reduce writes. Refusals 1 to 5, 6, 10, 11 and 13. */
 void subgroups_member(const uint8_t *system, size_t system_len, const uint8_t *target, size_t target_len,
                       uint8_t *words, size_t words_len, uint8_t *log, size_t log_len,
                       uint8_t *product, size_t product_len, subgroups_answer *answer);

@@ -42,7 +42,7 @@ use Rattle.runs.specs.Runs.{stopped}
 use Rattle.reduction.proofs.Meaning.{tested-means, words-length}
 use Rattle.factoring.specs.TargetProduct.{isFound, productAfter, productFor, targetWord}
 use Rattle.asking.specs.Asking.{askAnswer, askFound, askProduct, askTests, askedOf, questionRules, readyRules, verdictOf}
-use Rattle.asking.specs.Meaning.{Answered, AskMeans, Decides}
+use Rattle.asking.specs.Meaning.{Answered, AskMeans, Decides, EnoughToAsk}
 
 -- multiply takes a product over the slots of a system that multiplies out to what a record's word freely reduces to
 slots-pass : (n : ℕ) (l : List ℕ) (at : ℕ) → Named (λ k. k < n) (map factorOf l) → eachByte (hasSlot n) 9 l at ≡ Fine
@@ -234,11 +234,11 @@ module _ (s t product : List ℕ) (passed : askTests s t product ≡ Fine) where
   product-written : (product′ : List ℕ) → product′ ≡ askProduct s t product → product′ ≡ productAfter (askFound s t) product
   product-written product′ gave = gave ∙ ap (λ (c : Checked). onFine c (productAfter (askFound s t) product) product) passed
 
--- they pass where system and target are well formed, the freely reduced words are reduced and the product has room
-pub ask-passes : (s t product : List ℕ) → systemRules s ≡ Fine → targetRules t ≡ Fine → Reduced bytes (freelyReducedWords s) → 64 ≤ length product
-    → askTests s t product ≡ Fine
+-- they pass where there is enough to ask
+pub ask-passes : (s t product : List ℕ) → EnoughToAsk s t product → askTests s t product ≡ Fine
 unfolding questionRules readyRules
-ask-passes s t product system target reduced room = rw (system, target, tested-means s .1 reduced, le-leb 64 (length product) room) refl
+ask-passes s t product enough =
+    rw (enough .system, enough .targetFits, tested-means s .1 (enough .reduced), le-leb 64 (length product) (enough .productFits)) refl
 
 -- the answer of ask and what it wrote mean what is demanded of them
 module _ (s t product : List ℕ) (a : Answer) (product′ : List ℕ) (answered : a ≡ askAnswer s t product) (gave : product′ ≡ askProduct s t product) where
@@ -253,6 +253,18 @@ module _ (s t product : List ℕ) (a : Answer) (product′ : List ℕ) (answered
   pub ask-means : AskMeans s t product a product′
   ask-means =
       record {
+        thirdDemand =
+            record {
+              answered =
+                  λ enough.
+                  let passed = ask-passes s t product enough in
+                  verdict-cases (a .verdict) (askFound s t) (verdict-is s t product passed a answered);
+              decides =
+                  λ told.
+                  let passed = tests-passed told in
+                  asked-decides s t product product′ (a .verdict) (system-passed s t product passed) (words-reduced s t product passed)
+                  (verdict-is s t product passed a answered) (product-written s t product passed product′ gave);
+            };
         notReduced =
             λ system target. (
               λ e reduced. true≢false (sym (tested-means s .1 reduced) ∙ unreduced system target .0 e),
@@ -262,13 +274,5 @@ module _ (s t product : List ℕ) (a : Answer) (product′ : List ℕ) (answered
                     | inr e ↦ e
                   ]),
             );
-        answered =
-            λ system target reduced room.
-            verdict-cases (a .verdict) (askFound s t) (verdict-is s t product (ask-passes s t product system target reduced room) a answered);
         reduced = λ told. words-reduced s t product (tests-passed told);
-        decides =
-            λ told.
-            let passed = tests-passed told in
-            asked-decides s t product product′ (a .verdict) (system-passed s t product passed) (words-reduced s t product passed)
-            (verdict-is s t product passed a answered) (product-written s t product passed product′ gave);
       }

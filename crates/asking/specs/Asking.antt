@@ -28,12 +28,12 @@ verdictOf false = NotMember
 unfoldable pub questionRules : List ℕ → List ℕ → Checked
 questionRules s t = systemRules s andThen targetRules t
 
--- 15. "The system isn't reduced after free reduction." Neither rule applies to words that are reduced. 11. "The product buffer is shorter
--- than 64 bytes."
+-- 15. "The system isn't reduced after free reduction.": some rule applies (`notReduced` of Meaning). 11. "The product buffer is shorter than
+-- 64 bytes."
 unfoldable pub readyRules : List (List ℕ) → ℕ → Checked
 readyRules S room = must (stopped S) 15 0 andThen must (leb 64 room) 11 0
 
--- "ask answers with the verdict alone": a refusal, or the verdict on the target
+-- "tidy, replay, multiply and ask answer with the verdict alone": of ask a refusal, or the verdict on the target
 abbrev pub askedOf : Checked → Verdict → Answer
 askedOf Fine verdict = record { verdict = verdict }
 askedOf (Failed f) verdict = record { verdict = Refused f }

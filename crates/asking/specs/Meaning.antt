@@ -1,5 +1,5 @@
--- What the verdict on a target means, over the lent buffers alone: the third demand of docs/REQUIREMENTS.md, for ask and for member, and
--- what it means that ask answers.
+-- What the verdict on a target means, over the lent buffers alone: the third demand of docs/REQUIREMENTS.md, for ask and for member; and
+-- what ask's answer means.
 use Prim.Native.Nat.{_≤_, ℕ}
 use mathlib.Core.Path.{_≡_}
 use mathlib.Core.Logic.{_↔_, _⊎_}
@@ -21,8 +21,8 @@ use Rattle.slots.specs.Refusals.{systemRules}
 use Rattle.slots.specs.Systems.{freelyReducedWords, systemOf}
 use Rattle.multiply.specs.Multiply.{multiplyRules}
 
--- the third demand, of the given system and target, the system W whose freely reduced words are the reduced words, the product P that was
--- written, and the verdict
+-- what a verdict means for the given system and target, the system W whose freely reduced words are the reduced words, and the product P
+-- that was written
 pub record Decides (given target W P : List ℕ) (verdict : Verdict) : Type 0 where
   -- "w is called a member exactly when some product of words of S and their inverses, of whatever finite length, the empty product
   -- included, freely reduces to what w freely reduces to"
@@ -45,12 +45,23 @@ pub record Decides (given target W P : List ℕ) (verdict : Verdict) : Type 0 wh
 abbrev pub Answered : Verdict → Type 0
 Answered verdict = (verdict ≡ Member) ⊎ (verdict ≡ NotMember)
 
--- where system and target are well formed, ask is refused with 15 exactly when the freely reduced words are not reduced; where they are
--- and the product has room, the target is answered; and every answer decides, with P what ask wrote, over a reduced system
+-- the third demand, whole: with enough room the target is answered, and every answer decides
+pub record ThirdDemand (EnoughRoom : Type 0) (given target W P : List ℕ) (verdict : Verdict) : Type 0 where
+  pub answered : EnoughRoom → Answered verdict
+  pub decides : Answered verdict → Decides given target W P verdict
+
+-- what is enough to ask: well-formed records, "where S is reduced after free reduction", and "64 bytes of product buffer alone"
+pub record EnoughToAsk (given target product : List ℕ) : Type 0 where
+  pub system : systemRules given ≡ Fine
+  pub targetFits : targetRules target ≡ Fine
+  pub reduced : Reduced bytes (freelyReducedWords given)
+  pub productFits : 64 ≤ length product
+
+-- what ask's answer means; P is what it wrote
 pub record AskMeans (given target product : List ℕ) (answer : Answer) (product′ : List ℕ) : Type 0 where
+  pub thirdDemand : ThirdDemand (EnoughToAsk given target product) given target given (take 64 product′) (answer .verdict)
+  -- refusal 15, where no earlier one applies: "The system isn't reduced after free reduction."
   pub notReduced : systemRules given ≡ Fine → targetRules target ≡ Fine
       → (refusalNumber (answer .verdict) ≡ 15) ↔ (Reduced bytes (freelyReducedWords given) → ⊥)
-  pub answered : systemRules given ≡ Fine → targetRules target ≡ Fine → Reduced bytes (freelyReducedWords given) → 64 ≤ length product
-      → Answered (answer .verdict)
+  -- so only a reduced system is answered
   pub reduced : Answered (answer .verdict) → Reduced bytes (freelyReducedWords given)
-  pub decides : Answered (answer .verdict) → Decides given target given (take 64 product′) (answer .verdict)

@@ -29,18 +29,21 @@ use Rattle.reduction.specs.Reduction.{logAfter, reductionOf, runTests, wordsAft
 use Rattle.reduction.specs.declared.answers.Reduction.{Reduction}
 use Rattle.reduction.proofs.Meaning.{enough-passes, left-reduced, left-words, ran-ended, ran-reduces, ran-tests, ran-words, runWords, short-means}
 use Rattle.factoring.specs.TargetProduct.{isFound, productAfter, productFor, targetWord}
-use Rattle.membership.specs.Meaning.{InTurn, MemberMeans}
+use Rattle.membership.specs.Meaning.{InTurn, MemberMeans, NotRefused}
 use Rattle.asking.specs.Asking.{askFound, askTests, askedOf, verdictOf}
 use Rattle.asking.specs.Meaning.{Answered, Decides}
 use Rattle.asking.proofs.Meaning.{ask-means, ask-passes, decides-equivalent, verdict-cases, verdict-unrefused}
 use Rattle.membership.specs.Membership.{memberAnswer, memberChecked, memberFound, memberLog, memberProduct, memberTests, memberWords}
 use Rattle.membership.proofs.Calls.{passed-fits, passed-product, passed-rules, passed-system}
 
--- an answer that is one of the two verdicts comes from a call that passed its tests
-answered-fine : (c : Checked) (v : Verdict) (S : List (List ℕ)) (n : ℕ) → Answered (reductionOf c v S n .verdict) → c ≡ Fine
-answered-fine Fine v S n h = refl
-answered-fine (Failed f) v S n (inl e) = let z : _≡_ {A = ℕ} 0 1 = cc in absurd (omega arith)
-answered-fine (Failed f) v S n (inr e) = let z : _≡_ {A = ℕ} 0 1 = cc in absurd (omega arith)
+-- an answer that is no refusal comes from a call that passed its tests, and so does one of the two verdicts
+unrefused-fine : (c : Checked) (v : Verdict) (S : List (List ℕ)) (n : ℕ) → NotRefused (reductionOf c v S n .verdict) → c ≡ Fine
+unrefused-fine Fine v S n h = refl
+unrefused-fine (Failed f) v S n h = absurd (h f refl)
+
+answered-unrefused : (v : Verdict) → Answered v → NotRefused v
+answered-unrefused v (inl e) f h = let z : _≡_ {A = ℕ} 0 1 = cc in omega arith
+answered-unrefused v (inr e) f h = let z : _≡_ {A = ℕ} 0 1 = cc in omega arith
 
 -- the call, where its tests and 13 passed
 module _ (s t words log product : List ℕ) (passed : memberChecked s t words log product ≡ Fine) where
@@ -84,8 +87,13 @@ module _ (s t words log product : List ℕ) (passed : memberChecked s t words lo
     -- ask takes them
     ask-passed : askTests (take (slots s * 64) words′) t product ≡ Fine
     ask-passed =
-        ask-passes (take (slots s * 64) words′) t product (given-same .wellFormed) (passed-rules s t (length words) (length product) tests)
-        (rw words-back (left-reduced s (roomFor log) ended)) (passed-product s t (length words) (length product) tests)
+        ask-passes (take (slots s * 64) words′) t product
+        (record {
+          system = given-same .wellFormed;
+          targetFits = passed-rules s t (length words) (length product) tests;
+          reduced = rw words-back (left-reduced s (roomFor log) ended);
+          productFits = passed-product s t (length words) (length product) tests;
+        })
 
     -- and reduce is done with the given ones
     in-turn : InTurn s t words log product a words′ log′ product′
@@ -113,7 +121,7 @@ module _ (s t words log product : List ℕ) (passed : memberChecked s t words lo
     decides : Answered (a .verdict) → Decides s t (take (slots s * 64) words′) (take 64 product′) (a .verdict)
     decides told =
         decides-equivalent s t (take (slots s * 64) words′) (take 64 product′) (a .verdict) (given-same .equivalent)
-        (ask-means (take (slots s * 64) words′) t product (record { verdict = a .verdict }) product′ (sym (in-turn .asked)) (in-turn .sameProduct) .decides told)
+        (ask-means (take (slots s * 64) words′) t product (record { verdict = a .verdict }) product′ (sym (in-turn .asked)) (in-turn .sameProduct) .thirdDemand .decides told)
 
 -- with room for the words and the product the call passes its tests before the run
 pub tests-pass : (s t : List ℕ) (room productRoom : ℕ) → systemRules s ≡ Fine → targetRules t ≡ Fine → slots s * 64 ≤ room → 64 ≤ productRoom
@@ -130,29 +138,33 @@ module _ (s t words log product : List ℕ) (a : Reduction) (words′ log′ pro
   v = verdictOf (isFound (memberFound s t words log product))
 
   passed-answer : Answered (a .verdict) → memberChecked s t words log product ≡ Fine
-  passed-answer told = answered-fine _ v (freelyReducedWords s) (roomFor log) (rw answered at told)
+  passed-answer told = unrefused-fine _ v (freelyReducedWords s) (roomFor log) (answered-unrefused _ (rw answered at told))
 
   -- are what reduce and ask in turn give
-  pub member-turns : Answered (a .verdict) → InTurn s t words log product a words′ log′ product′
-  member-turns told = in-turn s t words log product (passed-answer told) a words′ log′ product′ answered wrote logged gave
+  pub member-turns : NotRefused (a .verdict) → InTurn s t words log product a words′ log′ product′
+  member-turns told =
+      in-turn s t words log product (unrefused-fine _ v (freelyReducedWords s) (roomFor log) (rw answered at told)) a words′ log′ product′ answered wrote logged gave
 
   -- and mean what is demanded of them
   pub member-means : MemberMeans s t words log product a words′ log′ product′
   member-means =
       record {
+        thirdDemand =
+            record {
+              answered =
+                  λ room.
+                  verdict-cases (a .verdict) (memberFound s t words log product)
+                  (verdict-is s t words log product
+                  (enough-passes s log (memberTests s t (length words) (length product)) (room .enoughMoves)
+                  (tests-pass s t (length words) (length product) (room .system) (room .targetFits) (room .wordsFit) (room .productFits)) (room .noMoreMoves) (room .logFits))
+                  a answered);
+              decides = λ told. decides s t words log product (passed-answer told) a words′ log′ product′ answered wrote logged gave told;
+            };
+        reduces = λ told. given-same s t words log product (passed-answer told) a words′ log′ product′ answered wrote logged gave;
         finite = every-run-ends bytes byteLaws flipByte-noOwnInverse (freelyReducedWords s) (loaded-freelyReduced s);
-        answered =
-            λ room.
-            verdict-cases (a .verdict) (memberFound s t words log product)
-            (verdict-is s t words log product
-            (enough-passes s log (memberTests s t (length words) (length product)) (room .enoughMoves)
-            (tests-pass s t (length words) (length product) (room .system) (room .targetFits) (room .wordsFit) (room .productFits)) (room .noMoreMoves) (room .logFits))
-            a answered);
         logShort =
             λ system target fits productFits enough ended.
             short-means s log (memberTests s t (length words) (length product))
             (tests-pass s t (length words) (length product) system target fits productFits) enough ended v
             (verdict-unrefused (isFound (memberFound s t words log product))) a log′ answered logged;
-        decides = λ told. decides s t words log product (passed-answer told) a words′ log′ product′ answered wrote logged gave told;
-        reduces = λ told. given-same s t words log product (passed-answer told) a words′ log′ product′ answered wrote logged gave;
       }

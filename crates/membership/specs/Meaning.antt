@@ -9,14 +9,16 @@ use Rattle.systems.specs.Rules.{movesWithin}
 use Rattle.slots.specs.Systems.{freelyReducedWords, slots}
 use Rattle.slots.specs.Refusals.{systemRules}
 use Rattle.records.specs.declared.answers.Checked.the-variants.{Fine}
-use Rattle.records.specs.declared.answers.Verdict.the-variants.{Done}
+use Rattle.records.specs.declared.answers.Refusal.{Refusal}
+use Rattle.records.specs.declared.answers.Verdict.{Verdict}
+use Rattle.records.specs.declared.answers.Verdict.the-variants.{Done, Refused}
 use Rattle.moves.specs.Logs.{moveSize}
 use Rattle.records.specs.Refusals.{targetRules}
 use Rattle.reduction.specs.Meaning.{EnoughMoves, LogShort, Reduces}
 use Rattle.reduction.specs.Reduction.{reduceAnswer, reduceLog, reduceWords}
 use Rattle.reduction.specs.declared.answers.Reduction.{Reduction}
 use Rattle.asking.specs.Asking.{askAnswer, askProduct}
-use Rattle.asking.specs.Meaning.{Answered, Decides}
+use Rattle.asking.specs.Meaning.{Answered, ThirdDemand}
 
 -- "in well-formed records with enough room lent for all results": 64 bytes of words buffer for each record, 64 bytes of product buffer,
 -- "and in the log buffer room for one log record for each move that the rules make on S"; that no byte of these three lies in
@@ -30,19 +32,23 @@ pub record EnoughRoom (given target words log product : List ℕ) : Type 0 where
   pub noMoreMoves : EnoughMoves given enoughMoves
   pub logFits : enoughMoves * moveSize ≤ length log
 
--- the moves that the rules make are finitely many; wherever there is room for them and for all else, the target is answered; where there is
--- room for all but the moves, the call is refused with 13; every answer decides, the third demand, with W and P what member wrote, and W,
--- the log and the numbers are those of reduce, with all that they mean
+-- what member's answer means: W, L and P are what it wrote
 pub record MemberMeans (given target words log product : List ℕ) (answer : Reduction) (words′ log′ product′ : List ℕ) : Type 0 where
+  pub thirdDemand : ThirdDemand (EnoughRoom given target words log product) given target (take (slots given * 64) words′) (take 64 product′) (answer .verdict)
+  -- W, L and the numbers are those of reduce, with all that they mean
+  pub reduces : Answered (answer .verdict) → Reduces given (take (slots given * 64) words′) (take (answer .moves * moveSize) log′) answer
+  -- the moves that the rules make are finitely many
   pub finite : (enough : ℕ) × EnoughMoves given enough
-  pub answered : EnoughRoom given target words log product → Answered (answer .verdict)
+  -- where there is room for all but the moves, the call is refused with 13
   pub logShort : systemRules given ≡ Fine → targetRules target ≡ Fine → slots given * 64 ≤ length words → 64 ≤ length product
       → (enough : ℕ) → EnoughMoves given enough → LogShort (movesWithin bytes enough (freelyReducedWords given)) log log′ answer
-  pub decides : Answered (answer .verdict) → Decides given target (take (slots given * 64) words′) (take 64 product′) (answer .verdict)
-  pub reduces : Answered (answer .verdict) → Reduces given (take (slots given * 64) words′) (take (answer .moves * moveSize) log′) answer
 
--- "what reduce and ask in turn give: words, log and numbers are those of reduce, verdict and product those of asking the words that reduce
--- wrote"
+-- "Where it isn't refused"
+abbrev pub NotRefused : Verdict → Type 0
+NotRefused verdict = (f : Refusal) → verdict ≡ Refused f → ⊥
+
+-- "it gives what reduce and ask in turn give: words, log and numbers are those of reduce, verdict and product those of asking the words that
+-- reduce wrote"
 pub record InTurn (given target words log product : List ℕ) (answer : Reduction) (words′ log′ product′ : List ℕ) : Type 0 where
   pub reduced : reduceAnswer given words log
       ≡ record { verdict = Done; moves = answer .moves; rank = answer .rank; independent = answer .independent }

@@ -8,8 +8,7 @@ ghost use Rattle.slots.specs.Held.{Held, held};
 ghost use Rattle.slots.specs.Systems.{bytesOf};
 ghost use Rattle.factoring.specs.TargetProduct.{isFound, productAfter, productFor, targetWord};
 ghost use Rattle.asking.specs.Asking.{verdictOf};
-ghost use Rattle.asking.specs.Meaning.{Answered};
-ghost use Rattle.membership.specs.Meaning.{InTurn, MemberMeans};
+ghost use Rattle.membership.specs.Meaning.{InTurn, MemberMeans, NotRefused};
 ghost use Rattle.membership.specs.Membership.{memberAnswer, memberLog, memberProduct, memberTests, memberWords};
 use asking::ask_held;
 use records::answers::Checked;
@@ -40,7 +39,7 @@ pub fn member(
     ensures log { λ _. ⌜ now (log .exit) ≡ memberLog (now (system .entry)) (now (target .entry)) (now (words .entry)) (now (log .entry)) (now (product .entry)) ⌝ }
     ensures product { λ _. ⌜ now (product .exit) ≡ memberProduct (now (system .entry)) (now (target .entry)) (now (words .entry)) (now (log .entry)) (now (product .entry)) ⌝ }
     ensures means { λ r. ⌜ MemberMeans (now (system .entry)) (now (target .entry)) (now (words .entry)) (now (log .entry)) (now (product .entry)) r (now (words .exit)) (now (log .exit)) (now (product .exit)) ⌝ }
-    ensures turns { λ r. ⌜ (Answered (r .verdict) → InTurn (now (system .entry)) (now (target .entry)) (now (words .entry)) (now (log .entry)) (now (product .entry)) r (now (words .exit)) (now (log .exit)) (now (product .exit))) ⌝ }
+    ensures in_turn { λ r. ⌜ (NotRefused (r .verdict) → InTurn (now (system .entry)) (now (target .entry)) (now (words .entry)) (now (log .entry)) (now (product .entry)) r (now (words .exit)) (now (log .exit)) (now (product .exit))) ⌝ }
 {
     member_records(system, target, words, log, product)
 }

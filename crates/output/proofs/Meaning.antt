@@ -120,7 +120,7 @@ module _ (input : List ℕ) (formed : WellFormed input) where
   pub output-decides : EnoughMoves (givenSystem input) 16384 → Decided input (programOutput input)
   unfolding programOutput answerOutput
   output-decides enough =
-      let told = means .answered (room-enough enough) in
+      let told = means .thirdDemand .answered (room-enough enough) in
       record {
         answer = answer input;
         W = take (slots (givenSystem input) * 64) (words input);
@@ -128,7 +128,7 @@ module _ (input : List ℕ) (formed : WellFormed input) where
         P = take 64 (product input);
         lines = rw (formed .sized, unrefused (answer input) told) refl;
         answered = told;
-        decides = means .decides told;
+        decides = means .thirdDemand .decides told;
         reduces = means .reduces told;
       }
 

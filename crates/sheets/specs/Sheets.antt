@@ -53,7 +53,7 @@ pub data Sheet : Type 0 where
   member : String → Outcome → String → String → Sheet
   -- words, and a target that is not a member
   notMember : String → Outcome → String → Sheet
-  -- words to ask, a target, the length of the product buffer, the verdict, and that buffer afterwards
+  -- words that are asked, a target, the length of the product buffer, the verdict, and that buffer afterwards
   asks : String → List String → String → ℕ → Verdict → List ℕ → Sheet
   -- words on the program's standard input, the last one the target, and the lines that it prints
   prints : String → List String → List String → Sheet

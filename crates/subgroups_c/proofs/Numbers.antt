@@ -9,10 +9,10 @@ use Rattle.reduction.specs.declared.answers.Tested.{Tested}
 use Rattle.reduction.specs.Meaning.{TestMeans, ReduceMeans}
 use Rattle.reduction.proofs.Meaning.{test-means, reduce-means}
 use Rattle.membership.specs.Membership.{memberAnswer, memberWords, memberLog, memberProduct}
-use Rattle.membership.specs.Meaning.{InTurn, MemberMeans}
+use Rattle.membership.specs.Meaning.{InTurn, MemberMeans, NotRefused}
 use Rattle.membership.proofs.Meaning.{member-means, member-turns}
 use Rattle.asking.specs.Asking.{askAnswer, askProduct}
-use Rattle.asking.specs.Meaning.{Answered, AskMeans}
+use Rattle.asking.specs.Meaning.{AskMeans}
 use Rattle.asking.proofs.Meaning.{ask-means}
 use Rattle.subgroups_c.specs.Numbers.{plainNumbers, testNumbers, reductionNumbers}
 
@@ -46,6 +46,6 @@ module _ (s t words log product words′ log′ product′ : List ℕ) (wrote : 
   pub member-meaning : MemberMeans s t words log product (memberAnswer s t words log product) words′ log′ product′
   member-meaning = member-means s t words log product (memberAnswer s t words log product) words′ log′ product′ refl wrote logged gave
 
-  pub member-in-turn : Answered (memberAnswer s t words log product .verdict)
+  pub member-in-turn : NotRefused (memberAnswer s t words log product .verdict)
       → InTurn s t words log product (memberAnswer s t words log product) words′ log′ product′
   member-in-turn = member-turns s t words log product (memberAnswer s t words log product) words′ log′ product′ refl wrote logged gave

@@ -7,8 +7,8 @@ ghost use Rattle.multiply.specs.Multiply.{multiplyAnswer, multiplyBuffer};
 ghost use Rattle.reduction.specs.Meaning.{ReduceMeans, TestMeans};
 ghost use Rattle.reduction.specs.Reduction.{reduceAnswer, reduceLog, reduceWords, testAnswer};
 ghost use Rattle.asking.specs.Asking.{askAnswer, askProduct};
-ghost use Rattle.asking.specs.Meaning.{Answered, AskMeans};
-ghost use Rattle.membership.specs.Meaning.{InTurn, MemberMeans};
+ghost use Rattle.asking.specs.Meaning.{AskMeans};
+ghost use Rattle.membership.specs.Meaning.{InTurn, MemberMeans, NotRefused};
 ghost use Rattle.membership.specs.Membership.{memberAnswer, memberLog, memberProduct, memberWords};
 ghost use Rattle.subgroups_c.specs.Numbers.{isBackward, oneOrZero, plainNumbers, reductionNumbers, testNumbers};
 use records::answers::Answer;
@@ -206,7 +206,7 @@ pub extern "C" fn subgroups_member(
     ensures product { λ _. ⌜ now (product .exit) ≡ memberProduct (now (system .entry)) (now (target .entry)) (now (words .entry)) (now (log .entry)) (now (product .entry)) ⌝ }
     ensures numbers { λ _. ⌜ now (numbers .exit) ≡ reductionNumbers (memberAnswer (now (system .entry)) (now (target .entry)) (now (words .entry)) (now (log .entry)) (now (product .entry))) ⌝ }
     ensures means { λ _. ⌜ MemberMeans (now (system .entry)) (now (target .entry)) (now (words .entry)) (now (log .entry)) (now (product .entry)) (memberAnswer (now (system .entry)) (now (target .entry)) (now (words .entry)) (now (log .entry)) (now (product .entry))) (now (words .exit)) (now (log .exit)) (now (product .exit)) ⌝ }
-    ensures turns { λ _. ⌜ (Answered (memberAnswer (now (system .entry)) (now (target .entry)) (now (words .entry)) (now (log .entry)) (now (product .entry)) .verdict) → InTurn (now (system .entry)) (now (target .entry)) (now (words .entry)) (now (log .entry)) (now (product .entry)) (memberAnswer (now (system .entry)) (now (target .entry)) (now (words .entry)) (now (log .entry)) (now (product .entry))) (now (words .exit)) (now (log .exit)) (now (product .exit))) ⌝ }
+    ensures in_turn { λ _. ⌜ (NotRefused (memberAnswer (now (system .entry)) (now (target .entry)) (now (words .entry)) (now (log .entry)) (now (product .entry)) .verdict) → InTurn (now (system .entry)) (now (target .entry)) (now (words .entry)) (now (log .entry)) (now (product .entry)) (memberAnswer (now (system .entry)) (now (target .entry)) (now (words .entry)) (now (log .entry)) (now (product .entry))) (now (words .exit)) (now (log .exit)) (now (product .exit))) ⌝ }
 {
     let answer = membership::member(system, target, words, log, product);
     *numbers = reduction_numbers(answer);

@@ -35,7 +35,7 @@ same-length-3 : tie.Need-same-length-3
 same-length-3 c = search needs
 
 returns-2 : tie.Need-returns-2
-returns-2 c = search needs
+returns-2 c = (search needs, (search needs, (search needs, search needs)))
 
 pub member-records-spec : {M : Type 1} → statement M
 member-records-spec =
