@@ -222,6 +222,45 @@ fn systems_reduced_after_free_reduction() {
     assert_eq!(asked(&["", "aA"], "a", 64), expected);
 }
 
+/// One and the same buffer as system and target: a word is the product of itself alone, an empty one
+/// the empty product, and of a malformed record the system's refusal comes first.
+#[test]
+fn systems_asked_about_themselves() {
+    let letters = "ab".repeat(31) + "c";
+    for (text, product) in [
+        ("a", "a"),
+        ("aBa", "a"),
+        (&letters, "a"),
+        ("", ""),
+        ("aA", ""),
+    ] {
+        let both = record(text);
+        let rank = product.len() as u64;
+        let (mut asked, mut words, mut decided) = ([FILL; 64], [FILL; 64], [FILL; 64]);
+        let answer = ask(&both, &both, &mut asked);
+        assert_eq!(answer.numbers(), [MEMBER, 0, 0, 0, 0, 0, 0], "{text}");
+        let answer = member(&both, &both, &mut words, &mut [], &mut decided);
+        assert_eq!(answer.numbers(), [MEMBER, 0, 0, 0, rank, 1, 0], "{text}");
+        assert_eq!([asked, decided], [record(product); 2], "{text}");
+    }
+    for (place, byte, number) in [
+        (63, b'.', NO_LINE_FEED),
+        (5, b' ', NEITHER_LETTER_NOR_STOP),
+        (9, b'a', LETTER_AFTER_STOP),
+    ] {
+        let mut both = record("abc");
+        both[place] = byte;
+        let expected = refused(number, place);
+        assert_eq!(ask(&both, &both, &mut []), expected);
+        let answer = member(&both, &both, &mut [], &mut [], &mut []);
+        assert_eq!(answer, expected);
+    }
+    let both = system(&["a", "b"]);
+    let expected = refused(TARGET_OR_PRODUCT_MALFORMED, 0);
+    assert_eq!(ask(&both, &both, &mut []), expected);
+    assert_eq!(ask(&[], &[], &mut []), expected);
+}
+
 /// Refusals 10 and 11, with 10 before 11 and both before 12 and 13.
 #[test]
 fn short_buffers() {

@@ -25,7 +25,7 @@ pub struct Refusal {
 
 impl Refusal {
     /// The refusal with this number at this place.
-    pub fn new(number: u64, place: usize) -> Refusal {
+    pub const fn new(number: u64, place: usize) -> Refusal {
         Refusal {
             number,
             place: place as u64,

@@ -1,6 +1,8 @@
 //! The worked sheets with their expected outcomes, as data for the tests and for the comparison.
 //! Sheets that only tidy, and the sheets about limits, are tests of their own below.
 
+use crate::refusals::{Refusal, PRODUCT_BUFFER_SHORT, SYSTEM_NOT_REDUCED};
+
 /// What a sheet expects of its target.
 #[derive(Clone, Copy, Debug, PartialEq, Eq)]
 pub enum Target {
@@ -127,6 +129,72 @@ pub const SHEETS: [Sheet; 11] = [
     },
 ];
 
+/// What a sheet on ask expects.
+#[derive(Clone, Copy, Debug, PartialEq, Eq)]
+pub enum Asked {
+    /// The target is a member, by this product.
+    Member(&'static str),
+    /// The target is not a member.
+    NotMember,
+    /// The call is refused.
+    Refused(Refusal),
+}
+
+/// One worked sheet on ask, with the length of its product buffer.
+pub struct AskSheet {
+    pub name: &'static str,
+    pub asked: &'static [&'static str],
+    pub target: &'static str,
+    pub product_room: usize,
+    pub answer: Asked,
+}
+
+/// The sheets on ask, from A1 on.
+pub const ASK_SHEETS: [AskSheet; 6] = [
+    AskSheet {
+        name: "A1",
+        asked: &["ab", "ac", "ad"],
+        target: "Cd",
+        product_room: 64,
+        answer: Asked::Member("Bc"),
+    },
+    AskSheet {
+        name: "A2",
+        asked: &["ab", "ac", "ad"],
+        target: "d",
+        product_room: 64,
+        answer: Asked::NotMember,
+    },
+    AskSheet {
+        name: "A3",
+        asked: &["cC", "aAb"],
+        target: "bcCb",
+        product_room: 64,
+        answer: Asked::Member("bb"),
+    },
+    AskSheet {
+        name: "A4",
+        asked: &["ab", "b"],
+        target: "a",
+        product_room: 64,
+        answer: Asked::Refused(Refusal::new(SYSTEM_NOT_REDUCED, 0)),
+    },
+    AskSheet {
+        name: "A5",
+        asked: &["ab", "b"],
+        target: "a",
+        product_room: 63,
+        answer: Asked::Refused(Refusal::new(SYSTEM_NOT_REDUCED, 0)),
+    },
+    AskSheet {
+        name: "A6",
+        asked: &["a", "b"],
+        target: "a",
+        product_room: 63,
+        answer: Asked::Refused(Refusal::new(PRODUCT_BUFFER_SHORT, 0)),
+    },
+];
+
 #[cfg(test)]
 mod tests {
     use super::*;
@@ -219,6 +287,24 @@ mod tests {
             let answer = ask(&given, &target, &mut [FILL; 64]);
             let not_reduced = u64::from(!log.is_empty()) * SYSTEM_NOT_REDUCED;
             assert_eq!(answer.number, not_reduced, "{}", sheet.name);
+        }
+    }
+
+    /// Every sheet on ask: its answer, and every byte of the product buffer.
+    #[test]
+    fn ask_sheets() {
+        for sheet in &ASK_SHEETS {
+            let mut product = vec![FILL; sheet.product_room];
+            let untouched = product.clone();
+            let answer = ask(&system(sheet.asked), &record(sheet.target), &mut product);
+            let (numbers, expected) = match sheet.answer {
+                Asked::Member(letters) => ([MEMBER, 0, 0], record(letters).to_vec()),
+                Asked::NotMember => ([NOT_A_MEMBER, 0, 0], untouched),
+                Asked::Refused(Refusal { number, place }) => ([REFUSED, number, place], untouched),
+            };
+            assert_eq!(answer.numbers()[..3], numbers, "{}", sheet.name);
+            assert_eq!(answer.numbers()[3..], [0; 4], "{}", sheet.name);
+            assert_eq!(product, expected, "{}", sheet.name);
         }
     }
 

@@ -5,12 +5,13 @@
 use crate::comparison::Comparison;
 use crate::entries::ASK;
 use crate::inputs::*;
+use subgroups_reference::answers::{MEMBER, NOT_A_MEMBER};
 use subgroups_reference::decision::check_ask;
 use subgroups_reference::random::Random;
 use subgroups_reference::records::{freely_reduced, record, system, MOST_RECORDS, RECORD};
 use subgroups_reference::reduction::reduction;
 use subgroups_reference::refusals::*;
-use subgroups_reference::sheets::{Target, SHEETS};
+use subgroups_reference::sheets::{Target, ASK_SHEETS, SHEETS};
 use subgroups_reference::small;
 use subgroups_reference::words::{inverse_letter, inverse_letters, LONGEST};
 
@@ -27,6 +28,7 @@ pub fn compare() -> u64 {
     refusals_in_order(calls);
     buffer_lengths(calls);
     target_lengths(calls);
+    one_buffer_for_both(calls);
     damaged_targets(calls);
     small_systems(calls);
     spellings(calls);
@@ -35,11 +37,12 @@ pub fn compare() -> u64 {
     powers(calls);
     long_products(calls);
     random_targets(calls);
-    calls.end(&[
+    let refusals = [
         TARGET_OR_PRODUCT_MALFORMED,
         PRODUCT_BUFFER_SHORT,
         SYSTEM_NOT_REDUCED,
-    ])
+    ];
+    calls.end(&[MEMBER, NOT_A_MEMBER], &refusals)
 }
 
 /// Compares a call with a target given as letters and just enough room.
@@ -53,8 +56,14 @@ fn letters_of_their_own(records: usize) -> Vec<u8> {
     letters.flat_map(|letter| record([letter])).collect()
 }
 
-/// The worked sheets, given and reduced, with their targets and some others.
+/// The worked sheets on ask as they stand and with other room; the other sheets, given and reduced,
+/// with their targets and some others.
 fn sheets(calls: &mut Ask) {
+    for sheet in &ASK_SHEETS {
+        let inputs = [&system(sheet.asked)[..], &record(sheet.target)];
+        calls.call(inputs, [sheet.product_room]);
+        calls.call_with_all_rooms(inputs, [RECORD]);
+    }
     for sheet in &SHEETS {
         let given = system(sheet.given);
         let target = match sheet.target {
@@ -137,6 +146,15 @@ fn target_lengths(calls: &mut Ask) {
             calls.call([&given, target], [RECORD]);
             calls.call([&given, target], [0]);
         });
+    }
+}
+
+/// One and the same buffer lent as system and as target, with room for the product and without.
+fn one_buffer_for_both(calls: &mut Ask) {
+    for both in systems_and_targets_at_once() {
+        for room in rooms(RECORD) {
+            calls.call_with_one_buffer(&both, [room]);
+        }
     }
 }
 

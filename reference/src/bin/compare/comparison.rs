@@ -4,6 +4,7 @@
 use crate::entries::Entry;
 use crate::inputs::{rooms, LONG_LENGTHS};
 use crate::lent::{LentAnswer, Pair};
+use std::array::from_fn;
 use std::process::exit;
 use subgroups_reference::answers::{Answer, REFUSED};
 use subgroups_reference::records::RECORD;
@@ -28,9 +29,15 @@ impl Seen {
     pub fn not_refused(&self) -> u64 {
         self.verdicts.iter().sum()
     }
+
+    /// How many calls were refused with one of these numbers.
+    pub fn refused_with(&self, numbers: &[u64]) -> u64 {
+        let counts = numbers.iter().map(|&number| self.refusals[number as usize]);
+        counts.sum()
+    }
 }
 
-/// Another check of a call that was not refused, on what the Rust version was lent and has left.
+/// Another check of a call, on what the Rust version was lent and has left.
 pub type Check<const INPUTS: usize, const BUFFERS: usize> =
     fn([&[u8]; INPUTS], [&[u8]; BUFFERS], Answer) -> Result<(), &'static str>;
 
@@ -42,7 +49,10 @@ pub struct Comparison<const INPUTS: usize, const BUFFERS: usize> {
     buffers: [Pair; BUFFERS],
     proved: LentAnswer,
     rust: Answer,
+    /// The check of calls that were not refused.
     pub another_check: Option<Check<INPUTS, BUFFERS>>,
+    /// The check of calls that were refused.
+    pub refusal_check: Option<Check<INPUTS, BUFFERS>>,
     pub seen: Seen,
 }
 
@@ -62,12 +72,29 @@ impl<const INPUTS: usize, const BUFFERS: usize> Comparison<INPUTS, BUFFERS> {
             proved: LentAnswer::new(),
             rust: Answer::default(),
             another_check: None,
+            refusal_check: None,
             seen: Seen::default(),
         }
     }
 
     /// Makes one call on both sides, with buffers of these lengths, and ends the program if they disagree.
     pub fn call(&mut self, inputs: [&[u8]; INPUTS], lengths: [usize; BUFFERS]) {
+        self.call_lending(from_fn(|number| number), inputs, lengths);
+    }
+
+    /// Makes one call on both sides in which one and the same buffer is lent as every input.
+    pub fn call_with_one_buffer(&mut self, input: &[u8], lengths: [usize; BUFFERS]) {
+        self.call_lending([0; INPUTS], [input; INPUTS], lengths);
+    }
+
+    /// Copies the inputs into their buffers and makes one call on both sides, to which the buffers of
+    /// these numbers are lent as inputs.
+    fn call_lending(
+        &mut self,
+        lent: [usize; INPUTS],
+        inputs: [&[u8]; INPUTS],
+        lengths: [usize; BUFFERS],
+    ) {
         for (pair, input) in self.inputs.iter_mut().zip(inputs) {
             pair.copy(input);
         }
@@ -76,12 +103,12 @@ impl<const INPUTS: usize, const BUFFERS: usize> Comparison<INPUTS, BUFFERS> {
         }
         self.proved = LentAnswer::new();
         (self.entry.proved)(
-            self.inputs.each_ref().map(|pair| pair.proved.part()),
+            lent.map(|number| self.inputs[number].proved.part()),
             self.buffers.each_mut().map(|pair| pair.proved.part_mut()),
             &mut self.proved.numbers,
         );
         self.rust = (self.entry.rust)(
-            self.inputs.each_ref().map(|pair| pair.rust.part()),
+            lent.map(|number| self.inputs[number].rust.part()),
             self.buffers.each_mut().map(|pair| pair.rust.part_mut()),
         );
         self.check();
@@ -132,7 +159,11 @@ impl<const INPUTS: usize, const BUFFERS: usize> Comparison<INPUTS, BUFFERS> {
         if !same_bytes || !self.proved.holds_just(self.rust) {
             self.end_with("the two sides disagree");
         }
-        if let Some(check) = self.another_check.filter(|_| self.rust.verdict != REFUSED) {
+        let check = match self.rust.verdict {
+            REFUSED => self.refusal_check,
+            _ => self.another_check,
+        };
+        if let Some(check) = check {
             let inputs = self.inputs.each_ref().map(|pair| pair.rust.part());
             let buffers = self.buffers.each_ref().map(|pair| pair.rust.part());
             if let Err(fault) = check(inputs, buffers, self.rust) {
@@ -149,15 +180,17 @@ impl<const INPUTS: usize, const BUFFERS: usize> Comparison<INPUTS, BUFFERS> {
         }
     }
 
-    /// Says how many calls agreed, after a look that the refusals of a system and just these others
-    /// were among them, and gives the number of calls.
-    pub fn end(&self, refusals: &[u64]) -> u64 {
+    /// Says how many calls agreed, after a look that just these verdicts, the refusals of a system and
+    /// just these other refusals were among them, and gives the number of calls.
+    pub fn end(&self, verdicts: &[u64], refusals: &[u64]) -> u64 {
         let name = self.name;
         let mut outcomes = Vec::new();
-        for (verdict, count) in VERDICTS.iter().zip(self.seen.verdicts) {
+        for ((number, verdict), count) in (0..).zip(VERDICTS).zip(self.seen.verdicts) {
             if count > 0 {
                 outcomes.push(format!("{verdict} {count}"));
             }
+            let expected = verdicts.contains(&number);
+            assert_eq!(count > 0, expected, "{name} and the verdict {verdict}");
         }
         for (number, count) in (0..).zip(self.seen.refusals) {
             if count > 0 {

@@ -3,7 +3,7 @@
 
 use subgroups_reference::random::{Kind, Random};
 use subgroups_reference::records::{freely_reduced, record, system, MOST_RECORDS, RECORD};
-use subgroups_reference::sheets::{SHEETS, TIDY};
+use subgroups_reference::sheets::{ASK_SHEETS, SHEETS, TIDY};
 use subgroups_reference::small;
 use subgroups_reference::words::{Word, LONGEST};
 
@@ -35,9 +35,11 @@ pub fn any_bytes(random: &mut Random, length: usize) -> Vec<u8> {
 /// The systems of the worked sheets, and two around a half-end move.
 pub fn sheet_systems() -> Vec<Vec<u8>> {
     let tidy_sheets = TIDY.iter().map(|(_, given, _)| system(&[given]));
+    let ask_sheets = ASK_SHEETS.iter().map(|sheet| system(sheet.asked));
     let other_sheets = SHEETS.iter().map(|sheet| system(sheet.given));
+    let sheets = tidy_sheets.chain(ask_sheets).chain(other_sheets);
     let half_ends = [system(&["ab", "acb"]), system(&["a", "Cab", "bc"])];
-    tidy_sheets.chain(other_sheets).chain(half_ends).collect()
+    sheets.chain(half_ends).collect()
 }
 
 /// A system of 16 records with words of many lengths.
@@ -166,6 +168,18 @@ pub fn sound_and_refused_records(letters: &str) -> Vec<Vec<u8>> {
         records.push(damaged);
     }
     records
+}
+
+/// Bytes that are lent as system and as target at once: none, and one record, a blank one and a full
+/// one among them, sound, too short, too long and broken in several places.
+pub fn systems_and_targets_at_once() -> Vec<Vec<u8>> {
+    let mut both = vec![Vec::new()];
+    for letters in ["a", "abAB", "aAb", "aA"] {
+        both.extend(sound_and_refused_records(letters));
+    }
+    both.extend(sound_and_refused_records(""));
+    both.extend(records_of("abC").map(Vec::from));
+    both
 }
 
 /// Lends bytes with two of them changed, at any two of the places and to each pair of values.

@@ -25,6 +25,13 @@ impl Lent {
         lent
     }
 
+    /// A buffer with a lent part that holds these bytes.
+    pub fn copied(bytes: &[u8]) -> Lent {
+        let mut lent = Lent::default();
+        lent.copy(bytes);
+        lent
+    }
+
     /// Fills the buffer with the pattern and sets the length of the lent part.
     fn fill(&mut self, length: usize) {
         self.bytes.resize(length + 2 * MARGIN, 0);
@@ -32,6 +39,12 @@ impl Lent {
             *byte = pattern(place);
         }
         self.length = length;
+    }
+
+    /// Fills the buffer with the pattern and copies these bytes into its lent part.
+    fn copy(&mut self, bytes: &[u8]) {
+        self.fill(bytes.len());
+        self.part_mut().copy_from_slice(bytes);
     }
 
     /// The lent part, to be written.
@@ -76,9 +89,8 @@ impl Pair {
 
     /// Fills both with the pattern and copies an input into their lent parts.
     pub fn copy(&mut self, input: &[u8]) {
-        self.fill(input.len());
-        self.proved.part_mut().copy_from_slice(input);
-        self.rust.part_mut().copy_from_slice(input);
+        self.proved.copy(input);
+        self.rust.copy(input);
     }
 
     /// The first byte in which the two differ, counted from the lent part's start.

@@ -1,11 +1,13 @@
 //! The inputs on which member is compared: targets that are products, that just fail to be, and any
 //! others. Where a call is not refused the verdict is checked against the folded graph too, a
-//! member's product is multiplied out again, and reduce and ask in turn must give the same.
+//! member's product is multiplied out again, and reduce and ask in turn must give the same. Refusals
+//! that reduce or ask of the given system must give too are compared with theirs.
 
-use crate::comparison::Comparison;
+use crate::comparison::{Comparison, Seen};
 use crate::entries::MEMBER;
-use crate::in_turn::check_in_turn;
+use crate::in_turn::{check_in_turn, check_refusal, REFUSALS_OF_ASK, REFUSALS_OF_REDUCE};
 use crate::inputs::*;
+use subgroups_reference::answers;
 use subgroups_reference::decision::check_member;
 use subgroups_reference::moves::LOG_RECORD;
 use subgroups_reference::random::Random;
@@ -28,6 +30,7 @@ pub fn compare() -> u64 {
         check_member(inputs, buffers, answer)?;
         check_in_turn(inputs, buffers, answer)
     });
+    calls.refusal_check = Some(check_refusal);
     sheets(calls);
     for_each_length(|system| call_letters(calls, system, b"aa", 100));
     for_each_malformed_system(|system| call_letters(calls, system, b"abA", 1000));
@@ -35,21 +38,37 @@ pub fn compare() -> u64 {
     refusals_in_order(calls);
     buffer_lengths(calls);
     target_lengths(calls);
+    one_buffer_for_both(calls);
     let given = system(&["ab", "ac", "Bd"]);
     let needed = lengths_needed(&given);
     for_each_damaged_record("abCd", |target| calls.call([&given, target], needed));
     small_systems(calls);
     powers(calls);
     random_targets(calls);
-    let count = calls.end(&[
+    let refusals = [
         TARGET_OR_PRODUCT_MALFORMED,
         WORDS_BUFFER_SHORT,
         PRODUCT_BUFFER_SHORT,
         LOG_BUFFER_SHORT,
-    ]);
-    let not_refused = calls.seen.not_refused();
-    println!("member: {not_refused} of these calls agree with reduce and ask in turn");
+    ];
+    let count = calls.end(&[answers::MEMBER, answers::NOT_A_MEMBER], &refusals);
+    say_what_agreed_in_turn(&calls.seen);
     count
+}
+
+/// Says how many calls agreed with reduce and ask in turn, and how many refusals with either.
+fn say_what_agreed_in_turn(seen: &Seen) {
+    let not_refused = seen.not_refused();
+    println!("member: {not_refused} calls that are not refused agree with reduce and ask in turn");
+    for (name, refusals) in [
+        ("reduce", &REFUSALS_OF_REDUCE[..]),
+        ("ask of the given system", &REFUSALS_OF_ASK),
+    ] {
+        let refused = seen.refused_with(refusals);
+        println!(
+            "member: {refused} calls refused with one of {refusals:?} are refused alike by {name}"
+        );
+    }
 }
 
 /// The lengths of the words buffer, the log and the product buffer that member needs.
@@ -113,6 +132,17 @@ fn target_lengths(calls: &mut Member) {
             calls.call([&system, target], [system.len(), LOG_RECORD, RECORD]);
             calls.call([&system, target], [0, LOG_RECORD, 0]);
         });
+    }
+}
+
+/// One and the same buffer lent as system and as target, with room for words and product and without.
+fn one_buffer_for_both(calls: &mut Member) {
+    for both in systems_and_targets_at_once() {
+        for words in rooms(both.len()) {
+            for product in rooms(RECORD) {
+                calls.call_with_one_buffer(&both, [words, LOG_RECORD, product]);
+            }
+        }
     }
 }
 

@@ -4,6 +4,7 @@
 use crate::comparison::Comparison;
 use crate::entries::MULTIPLY;
 use crate::inputs::*;
+use subgroups_reference::answers::DONE;
 use subgroups_reference::random::{Kind, Random};
 use subgroups_reference::records::{record, system, MOST_RECORDS, RECORD};
 use subgroups_reference::refusals::*;
@@ -43,12 +44,13 @@ pub fn compare() -> u64 {
     results_of_every_length(calls);
     long_rows(calls);
     random_products(calls);
-    calls.end(&[
+    let refusals = [
         TARGET_OR_PRODUCT_MALFORMED,
         SLOT_MISSING,
         WORDS_BUFFER_SHORT,
         WORD_TOO_LONG,
-    ])
+    ];
+    calls.end(&[DONE], &refusals)
 }
 
 /// Compares a call with a product given as text and just enough room.

@@ -4,6 +4,7 @@
 use crate::comparison::Comparison;
 use crate::entries::REDUCE;
 use crate::inputs::*;
+use subgroups_reference::answers::DONE;
 use subgroups_reference::moves::LOG_RECORD;
 use subgroups_reference::random::{Kind, Random};
 use subgroups_reference::records::{system, MOST_RECORDS};
@@ -45,7 +46,7 @@ pub fn compare() -> u64 {
     log_lengths(calls);
     random_systems(calls);
     assert!(calls.seen.most_moves > 700, "no system needs many moves");
-    calls.end(&[WORDS_BUFFER_SHORT, LOG_BUFFER_SHORT])
+    calls.end(&[DONE], &[WORDS_BUFFER_SHORT, LOG_BUFFER_SHORT])
 }
 
 /// The lengths of the words buffer and of the log that reduce needs; no log if the system is refused.

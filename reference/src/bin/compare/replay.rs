@@ -4,13 +4,13 @@
 use crate::comparison::Comparison;
 use crate::entries::REPLAY;
 use crate::inputs::*;
+use subgroups_reference::answers::{Answer, DONE};
 use subgroups_reference::moves::{Form, Move, LOG_RECORD};
 use subgroups_reference::random::Random;
 use subgroups_reference::records::{freely_reduced, record, system, MOST_RECORDS, RECORD};
 use subgroups_reference::reduction::reduction;
 use subgroups_reference::refusals::*;
 use subgroups_reference::words::{inverse_letters, Word, LONGEST};
-use subgroups_reference::Answer;
 
 /// The comparison of replay: the system, the log and the direction; the words buffer.
 type Replay = Comparison<3, 1>;
@@ -57,12 +57,13 @@ pub fn compare() -> u64 {
     results_of_telling_lengths(calls);
     long_logs(calls);
     random_logs(calls);
-    calls.end(&[
+    let refusals = [
         LOG_UNEVEN,
         LOG_RECORD_MALFORMED,
         WORDS_BUFFER_SHORT,
         WORD_TOO_LONG,
-    ])
+    ];
+    calls.end(&[DONE], &refusals)
 }
 
 /// Compares calls forward and backward, with room for all words.

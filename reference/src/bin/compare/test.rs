@@ -4,6 +4,7 @@
 use crate::comparison::Comparison;
 use crate::entries::TEST;
 use crate::inputs::*;
+use subgroups_reference::answers::DONE;
 use subgroups_reference::random::Random;
 use subgroups_reference::records::{record, system, RECORD};
 use subgroups_reference::reduction::reduction;
@@ -31,7 +32,7 @@ pub fn compare() -> u64 {
     long_halves(calls);
     random_systems(calls);
     assert!(calls.seen.reduced > 10_000, "too few systems are reduced");
-    calls.end(&[])
+    calls.end(&[DONE], &[])
 }
 
 /// Systems at the edge of being reduced: squares, shared halves, inverses, repeats and blanks.

@@ -4,6 +4,7 @@
 use crate::comparison::Comparison;
 use crate::entries::TIDY;
 use crate::inputs::*;
+use subgroups_reference::answers::DONE;
 use subgroups_reference::random::Random;
 use subgroups_reference::records::{MOST_RECORDS, RECORD};
 use subgroups_reference::refusals::WORDS_BUFFER_SHORT;
@@ -28,7 +29,7 @@ pub fn compare() -> u64 {
     }
     random_systems(calls);
     damaged_systems(calls);
-    calls.end(&[WORDS_BUFFER_SHORT])
+    calls.end(&[DONE], &[WORDS_BUFFER_SHORT])
 }
 
 /// Every byte of a system changed: rules 3, 4 and 5 at each place of each record.
