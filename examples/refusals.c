@@ -51,8 +51,8 @@ int main(void) {
 
     subgroups_test(system_of_two, 100, &answer);
     expect(SUBGROUPS_SYSTEM_UNEVEN, "system uneven", &answer);
-    subgroups_test(system_of_two, sizeof system_of_two, &answer);
-    expect(SUBGROUPS_TOO_MANY_RECORDS, "too many records", &answer);
+    subgroups_test(system_of_two, sizeof system_of_two - 1, &answer); /* uneven too, but its size goes before that */
+    expect(SUBGROUPS_SYSTEM_TOO_LONG, "system too long", &answer);
     expect_damaged(SUBGROUPS_NO_LINE_FEED, "no line feed", 127, '.');
     expect_damaged(SUBGROUPS_NEITHER_LETTER_NOR_STOP, "neither letter nor stop", 1, '+');
     expect_damaged(SUBGROUPS_LETTER_AFTER_STOP, "letter after stop", 70, 'c');

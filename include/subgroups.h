@@ -96,7 +96,7 @@ enum subgroups_verdict {
  * byte counts from 0 at the beginning of its buffer. 14 belongs to a call that has no entry for C. */
 enum subgroups_refusal {
     SUBGROUPS_SYSTEM_UNEVEN = 1,               /* the system's length is not a multiple of 64 */
-    SUBGROUPS_TOO_MANY_RECORDS = 2,            /* the system has more than 16 records */
+    SUBGROUPS_SYSTEM_TOO_LONG = 2,             /* the system has more than 1,024 bytes, those of 16 records; tested before 1 */
     SUBGROUPS_NO_LINE_FEED = 3,                /* byte 63 of a record is not a line feed; place: that byte in the system */
     SUBGROUPS_NEITHER_LETTER_NOR_STOP = 4,     /* a byte before it is neither letter nor full stop; place: the first such
                                                   byte in the system */
@@ -123,38 +123,38 @@ typedef struct {
     uint64_t verdict, number, place, moves, rank, independent, reduced;
 } subgroups_answer;
 
-/* Writes each record of a system, freely reduced, into the same slot of words. Refusals 1 to 5 and 10. */
+/* Writes each record of a system, freely reduced, into the same slot of words. Refusals 2, 1, 3 to 5 and 10. */
 void subgroups_tidy(const uint8_t *system, size_t system_len, uint8_t *words, size_t words_len,
                     subgroups_answer *answer);
 
 /* Says in reduced whether the freely reduced words of a system are reduced in Nielsen's sense (docs/REQUIREMENTS.md, 'Reduced
- * systems, rank and independence'). Refusals 1 to 5. */
+ * systems, rank and independence'). Refusals 2, 1 and 3 to 5. */
 void subgroups_test(const uint8_t *system, size_t system_len, subgroups_answer *answer);
 
 /* Writes the reduced words, each into its slot, and the log of the moves, and gives the number of moves, the rank (the number
  * of reduced words that are not empty) and whether the given words that do not cancel to nothing are independent.
- * Refusals 1 to 5, 10 and 13. */
+ * Refusals 2, 1, 3 to 5, 10 and 13. */
 void subgroups_reduce(const uint8_t *system, size_t system_len, uint8_t *words, size_t words_len,
                       uint8_t *log, size_t log_len, subgroups_answer *answer);
 
 /* Writes the words of a system after the moves of a log, forward where backward is 0, and otherwise undone, the last first. The
- * words are freely reduced first; moves may name blank slots. Refusals 1 to 5, 7, 8, 10 and 12. */
+ * words are freely reduced first; moves may name blank slots. Refusals 2, 1, 3 to 5, 7, 8, 10 and 12. */
 void subgroups_replay(const uint8_t *system, size_t system_len, const uint8_t *log, size_t log_len,
                       uint8_t backward, uint8_t *words, size_t words_len, subgroups_answer *answer);
 
 /* Writes the freely reduced word that a product over the slots of a system multiplies out to, as one record.
- * Refusals 1 to 5, 6, 9, 10 and 12. */
+ * Refusals 2, 1, 3 to 6, 9, 10 and 12. */
 void subgroups_multiply(const uint8_t *system, size_t system_len, const uint8_t *product, size_t product_len,
                         uint8_t *word, size_t word_len, subgroups_answer *answer);
 
 /* Asks a system that is reduced after free reduction, such as the words that reduce writes, about a target: gives the verdict
  * member or not a member, and no number but those of a refusal; for a member it writes the product over the freely reduced
- * words that comes to the freely reduced target, and otherwise leaves product alone. Refusals 1 to 5, 6, 15 and 11. */
+ * words that comes to the freely reduced target, and otherwise leaves product alone. Refusals 2, 1, 3 to 6, 15 and 11. */
 void subgroups_ask(const uint8_t *system, size_t system_len, const uint8_t *target, size_t target_len,
                    uint8_t *product, size_t product_len, subgroups_answer *answer);
 
 /* Reduces a system and asks the reduced words about one target: writes all that reduce writes and gives its numbers, with the
- * verdict and the product that ask gives for the words that reduce writes. Refusals 1 to 5, 6, 10, 11 and 13. */
+ * verdict and the product that ask gives for the words that reduce writes. Refusals 2, 1, 3 to 6, 10, 11 and 13. */
 void subgroups_member(const uint8_t *system, size_t system_len, const uint8_t *target, size_t target_len,
                       uint8_t *words, size_t words_len, uint8_t *log, size_t log_len,
                       uint8_t *product, size_t product_len, subgroups_answer *answer);

@@ -98,7 +98,7 @@ module _ (records out : List ℕ) (least : 64 ≤ length records) where
 
 -- a length that passes is that of a target and of at most 16 records before it
 module _ (size : ℕ) (passed : inputRules size ≡ Fine) where
-  later : must (eqb (size % 64) 0) 1 0 andThen must (leb size 1088) 2 0 ≡ Fine
+  later : must (leb size 1088) 2 0 andThen must (eqb (size % 64) 0) 1 0 ≡ Fine
   unfolding inputRules
   later = fine-next (must (not (eqb size 0)) 6 0) _ passed
 
@@ -106,11 +106,11 @@ module _ (size : ℕ) (passed : inputRules size ≡ Fine) where
   unfolding inputRules
   size-least =
       let filled : size ≡ 0 → ⊥ = eqb-false size 0 (not-true (eqb size 0) (must-fine _ 6 0 (fine-first (must (not (eqb size 0)) 6 0) _ passed))) in
-      let whole : size % 64 ≡ 0 = eqb-true _ _ (must-fine _ 1 0 (fine-first (must (eqb (size % 64) 0) 1 0) _ later)) in
+      let whole : size % 64 ≡ 0 = eqb-true _ _ (must-fine _ 1 0 (fine-next (must (leb size 1088) 2 0) _ later)) in
       omega arith
 
   pub size-most : size ≤ 1088
-  size-most = leb-true _ _ (must-fine _ 2 0 (fine-next (must (eqb (size % 64) 0) 1 0) _ later))
+  size-most = leb-true _ _ (must-fine _ 2 0 (fine-first (must (leb size 1088) 2 0) _ later))
 
   -- fewer bytes were kept, and all were
   pub kept-missing : (kept out : List ℕ) → length kept < size → Prints (outputFrom kept size) out Missing out

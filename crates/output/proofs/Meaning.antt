@@ -1,18 +1,19 @@
 -- What the printed bytes mean for the whole input: what is kept and counted of it tells its output, which decides.
-use Prim.Native.Nat.{_%_, _*_, _-_, _<_, _≤_, ℕ}
+use Prim.Native.Nat.{_*_, _-_, _<_, _≤_, ℕ}
 use mathlib.Core.Bool.{false, true}
 use mathlib.Core.List.{List}
 use mathlib.Core.Logic.{inl, inr}
 use mathlib.Core.Option.{some}
 use mathlib.Core.Path.{_∙_, _≡_, ap, refl, sym}
 use native.Mathlib.Omega.{arith}
-use lib.Dec.{eqb, leb}
+use lib.Dec.{leb}
 use lib.ListN.{length, length-replicate, length-take, take}
 use lib.Seq.{ext-getD, getD-take, length-take-le}
 use borrow.Author.Tests.{le-leb, leb-false, leb-true, lt-leb, ne-eqb}
 use Rattle.words.specs.Alphabet.{bytes}
 use Rattle.systems.specs.Rules.{next, runWithin}
 use Rattle.systems.proofs.Logic.{bool-cases, option-cases}
+use Rattle.records.specs.Refusals.{refusal}
 use Rattle.records.specs.declared.answers.Checked.the-variants.{Failed, Fine}
 use Rattle.records.specs.declared.answers.Refusal.{Refusal}
 use Rattle.slots.specs.Systems.{freelyReducedWords, slots}
@@ -31,20 +32,14 @@ use Rattle.printing.specs.Printing.{Prints}
 use Rattle.printing.specs.declared.answers.Printed.{Printed}
 use Rattle.output.proofs.Calling.{refused-from, size-most}
 
--- a length over 1,088 is refused, by what its count tells
-long-refused : (n : ℕ) → 1088 < n → (f : Refusal) × (inputRules n ≡ Failed f)
+-- a length over 1,088 is refused with 2, by what its count tells
+long-refused : (n : ℕ) → 1088 < n → inputRules n ≡ refusal 2 0
 unfolding inputRules
-long-refused n h =
-    elim (bool-cases (eqb (n % 64) 0)) [
-      | inl e ↦ (record { number = 2; place = 0 }, rw (ne-eqb n 0 (omega arith), e, lt-leb n 1088 h) refl)
-      | inr e ↦ (record { number = 1; place = 0 }, rw (ne-eqb n 0 (omega arith), e) refl)
-    ]
+long-refused n h = rw (ne-eqb n 0 (omega arith), lt-leb n 1088 h) refl
 
 rules-same : (n size : ℕ) → CountOf n size → inputRules size ≡ inputRules n
-unfolding inputRules
 rules-same n size (inl e) = ap inputRules e
-rules-same n size (inr e) =
-    rw (ne-eqb size 0 (omega (arith, e)), ne-eqb n 0 (omega (arith, e)), lt-leb size 1088 (e .0), lt-leb n 1088 (e .1), e .2) refl
+rules-same n size (inr e) = long-refused size (e .0) ∙ sym (long-refused n (e .1))
 
 -- so the output from what is kept and counted is that of the whole input
 module _ (input kept : List ℕ) (size : ℕ) (holds : Holds input kept size) (room : 1088 ≤ length kept) where
@@ -60,7 +55,7 @@ module _ (input kept : List ℕ) (size : ℕ) (holds : Holds input kept size) (r
   refused-output f e = refused-from kept size (rules-same (length input) size (holds .count) ∙ e) ∙ ap some (sym (rw e refl))
 
   long-output : 1088 < length input → outputFrom kept size ≡ some (programOutput input)
-  long-output h = let refused = long-refused (length input) h in refused-output (refused .0) (refused .1)
+  long-output h = refused-output (record { number = 2; place = 0 }) (long-refused (length input) h)
 
   output-of : CountOf (length input) size → outputFrom kept size ≡ some (programOutput input)
   unfolding outputFrom

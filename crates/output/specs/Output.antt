@@ -20,9 +20,9 @@ givenSystem input = take (length input - 64) input
 abbrev pub givenTarget : List ℕ → List ℕ
 givenTarget input = drop (length input - 64) input
 
--- "no input at all gets 6, a length not a multiple of 64 gets 1, over 17 records gets 2"
+-- "no input at all gets 6, more than 1,088 bytes, those of 17 records, get 2, and then a length not a multiple of 64 gets 1"
 unfoldable pub inputRules : ℕ → Checked
-inputRules n = must (not (eqb n 0)) 6 0 andThen must (eqb (n % 64) 0) 1 0 andThen must (leb n 1088) 2 0
+inputRules n = must (not (eqb n 0)) 6 0 andThen must (leb n 1088) 2 0 andThen must (eqb (n % 64) 0) 1 0
 
 -- the buffers that the program lends to member, with room for 16 records, for the moves and for a product: "Its log buffer holds 16,384 moves."
 -- None of these zeros is printed.

@@ -17,9 +17,9 @@ use printing::print_refusal;
 use records::answers::Checked;
 use records::answers::check_that;
 use records::record::RECORD;
+use records::refusals::SYSTEM_TOO_LONG;
 use records::refusals::SYSTEM_UNEVEN;
 use records::refusals::TARGET_OR_PRODUCT_MALFORMED;
-use records::refusals::TOO_MANY_RECORDS;
 
 // Writes the program's output into a lent buffer, from the bytes kept of its input and the input's length as it was counted.
 pub fn print(kept: &[u8], size: usize, out: &mut [u8]) -> Printed
@@ -41,7 +41,7 @@ fn print_input(kept: &[u8], size: usize, out: &mut [u8]) -> Printed
     print_refusal(refusal, out)
 }
 
-// Refusals 6, 1 and 2 by the length of the input.
+// Refusals 6, 2 and 1 by the length of the input.
 fn check_input(size: usize) -> Checked
     ensures { λ r. ⌜ r ≡ inputRules size ⌝ }
 {
@@ -49,13 +49,13 @@ fn check_input(size: usize) -> Checked
     let Checked::Fine = some else {
         return some;
     };
+    let short = check_that(size <= LONGEST, SYSTEM_TOO_LONG, 0);
+    let Checked::Fine = short else {
+        return short;
+    };
     let even = check_that(size % RECORD == 0, SYSTEM_UNEVEN, 0);
     let Checked::Fine = even else {
         return even;
-    };
-    let few = check_that(size <= LONGEST, TOO_MANY_RECORDS, 0);
-    let Checked::Fine = few else {
-        return few;
     };
     Checked::Fine
 }

@@ -1,7 +1,7 @@
 // The refusals by name. Their meanings and places are in docs/REQUIREMENTS.md; show's, 14, has no answer that could carry a number.
 pub const SYSTEM_UNEVEN: u8 = 1;
 
-pub const TOO_MANY_RECORDS: u8 = 2;
+pub const SYSTEM_TOO_LONG: u8 = 2;
 
 pub const NO_LINE_FEED: u8 = 3;
 

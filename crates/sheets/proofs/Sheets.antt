@@ -40,6 +40,11 @@ sheets-hold =
     and (refl, refl)
     and (refl, refl)
     and (refl, refl)
+    and (λ s buffer e. rw e (refl, refl))
+    and (λ s buffer e. rw e (refl, refl))
+    and (λ s buffer e. rw e (refl, refl))
+    and (λ input e. rw e refl)
+    and (λ input e. rw e refl)
     and refl
     and refl
     and refl

@@ -55,8 +55,12 @@ pub data Sheet : Type 0 where
   notMember : String → Outcome → String → Sheet
   -- words that are asked, a target, the length of the product buffer, the verdict, and that buffer afterwards
   asks : String → List String → String → ℕ → Verdict → List ℕ → Sheet
+  -- a length of a system, and the number of the refusal that tidy gives to every system of that length
+  refuses : String → ℕ → ℕ → Sheet
   -- words on the program's standard input, the last one the target, and the lines that it prints
   prints : String → List String → List String → Sheet
+  -- a length of the program's input, and the line that it prints for every input of that length
+  printsFor : String → ℕ → String → Sheet
 
 -- the answer of reduce or of member, with its verdict
 abbrev pub answer : Outcome → Verdict → Reduction
@@ -81,6 +85,10 @@ Decides o target verdict product =
     × (memberLog (systemIn (o .given)) (recordIn target) (wordsLent o) (lent 64) (lent 64) ≡ written (linesIn (o .log)) (lent 64))
     × (memberProduct (systemIn (o .given)) (recordIn target) (wordsLent o) (lent 64) (lent 64) ≡ product)
 
+-- a refusal whose place is 0
+abbrev pub refused : ℕ → Verdict
+refused n = Refused (record { number = n; place = 0 })
+
 -- what a sheet says
 abbrev pub Says : Sheet → Type 0
 Says (tidies label given result) =
@@ -91,7 +99,10 @@ Says (notMember label o target) = Reduces o × Decides o target NotMember (lent 
 Says (asks label words target room verdict product) =
     (askAnswer (systemIn words) (recordIn target) (lent room) ≡ record { verdict = verdict })
     × (askProduct (systemIn words) (recordIn target) (lent room) ≡ product)
+Says (refuses label n number) =
+    (s buffer : List ℕ) → length s ≡ n → (tidyAnswer s buffer ≡ record { verdict = refused number }) × (tidyBuffer s buffer ≡ buffer)
 Says (prints label given lines) = programOutput (systemIn given) ≡ linesIn lines
+Says (printsFor label n line) = (input : List ℕ) → length input ≡ n → programOutput input ≡ linesIn (line ∷ [])
 
 -- what every sheet of a list says
 abbrev pub EachSays : List Sheet → Type 0
@@ -108,10 +119,6 @@ threeWords = outcome ("ab" ∷ "ac" ∷ "Bd" ∷ []) ("c1a" ∷ []) ("ab" ∷ "a
 
 abbrev pub noWords : Outcome
 noWords = outcome [] [] [] 0 true
-
--- a refusal whose place is 0
-abbrev pub refused : ℕ → Verdict
-refused n = Refused (record { number = n; place = 0 })
 
 abbrev pub sheets : List Sheet
 sheets =
@@ -133,6 +140,11 @@ sheets =
     ∷ asks "A4" ("ab" ∷ "b" ∷ []) "a" 64 (refused 15) (lent 64)
     ∷ asks "A5" ("ab" ∷ "b" ∷ []) "a" 63 (refused 15) (lent 63)
     ∷ asks "A6" ("a" ∷ "b" ∷ []) "a" 63 (refused 11) (lent 63)
+    ∷ refuses "L1" 1023 1
+    ∷ refuses "L2" 1025 2
+    ∷ refuses "L3" 1500 2
+    ∷ printsFor "L4" 1087 "refused 1 at 0"
+    ∷ printsFor "L5" 1089 "refused 2 at 0"
     ∷ prints "P3" ("ab" ∷ "b" ∷ "a" ∷ [])
     ("moves 1 rank 2 independent yes member yes"
     ∷ "a.............................................................."

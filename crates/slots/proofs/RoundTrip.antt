@@ -5,7 +5,6 @@ use mathlib.Core.List.{List, [], _++_, _∷_}
 use mathlib.Core.Path.{_∙_, _≡_, ap, refl, sym}
 use native.Mathlib.Decide.{decLt}
 use native.Mathlib.Omega.{arith}
-use lib.Dec.{eqb, leb}
 use lib.ListN.{List·getD-eq-default, drop, length, length-append, take}
 use lib.Seq.{drop-at, drop-drop, ext-getD, take-at}
 use Rattle.words.specs.Alphabet.{bytes}
@@ -15,13 +14,13 @@ use Rattle.systems.specs.Products.{word}
 use Rattle.systems.proofs.Equivalence.{reduced-word}
 use Rattle.systems.proofs.Runs.{reduced-within}
 use Rattle.records.specs.Records.{recordOf, wordOf}
-use Rattle.records.specs.Refusals.{eachBelow, must}
+use Rattle.records.specs.Refusals.{eachBelow}
 use Rattle.records.specs.declared.answers.Checked.the-variants.{Fine}
-use Rattle.records.proofs.Chains.{each-passed, each-passes, fine-next}
+use Rattle.records.proofs.Chains.{each-passed, each-passes}
 use Rattle.records.proofs.RoundTrip.{AllLetters, letters-reduce, record-letters, record-passes, word-back, word-short}
 use Rattle.slots.specs.Refusals.{slotRules, systemRules}
 use Rattle.slots.specs.Systems.{bytesOf, freelyReducedWords, recordAt, slots, systemOf, wordAt}
-use Rattle.slots.proofs.Systems.{record-length, system-records}
+use Rattle.slots.proofs.Systems.{record-length, records-passed, system-records}
 
 -- every word of a system fits a record
 abbrev pub AllShort : List (List ℕ) → Type 0
@@ -50,10 +49,8 @@ system-short s = system-each (λ w. length w ≤ 63) s (omega arith) (λ k h. wo
 
 -- so are the words of a system that passes its tests
 pub system-letters : (s : List ℕ) → systemRules s ≡ Fine → LetterWords (systemOf s)
-unfolding systemRules
 system-letters s e =
-    let each : eachBelow (slotRules s) (slots s) ≡ Fine =
-    fine-next (must (leb (slots s) 16) 2 0) _ (fine-next (must (eqb (length s % 64) 0) 1 0) _ e) in
+    let each : eachBelow (slotRules s) (slots s) ≡ Fine = records-passed s e in
     system-each AllLetters s tt (λ k h. record-letters (recordAt s k) (k * 64) (each-passed (slotRules s) (slots s) k each h))
 
 -- and so are they once freely reduced

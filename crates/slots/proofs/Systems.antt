@@ -8,7 +8,7 @@ use native.Mathlib.Omega.{arith}
 use lib.Dec.{eqb, leb}
 use lib.ListN.{drop, getD, length, length-append, length-replicate, set, take}
 use lib.Seq.{drop-at, drop-drop, take-at}
-use borrow.Author.Tests.{eq-eqb, eqb-true, le-leb, leb-true}
+use borrow.Author.Tests.{eq-eqb, le-leb, leb-true}
 use Rattle.words.specs.Alphabet.{bytes}
 use Rattle.words.specs.Below.{below}
 use Rattle.words.specs.Buffers.{written}
@@ -41,12 +41,12 @@ pub record-told : {x : Checked} (k : ℕ) (s : List ℕ) → x ≡ recordRules (
 record-told k s e = e ∙ ap (λ (r : List ℕ). recordRules r (k * 64)) (slot-part k s)
 
 -- refusals 1 to 5: the records are tried where there are at most 16 of them
-pub few-records : {x : Checked} (s : List ℕ) → x ≡ must (leb (length s / 64) 16) 2 0 → x ≡ Fine → length s / 64 ≤ 16
-few-records s e h = leb-true _ _ (must-passed _ 2 0 e h)
+pub few-records : {x : Checked} (s : List ℕ) → x ≡ must (leb (length s) 1024) 2 0 → x ≡ Fine → length s / 64 ≤ 16
+few-records s e h = omega (arith, leb-true (length s) 1024 (must-passed _ 2 0 e h))
 
 pub system-records : (s : List ℕ) → length s % 64 ≡ 0 → length s / 64 ≤ 16 → eachBelow (slotRules s) (length s / 64) ≡ Fine → systemRules s ≡ Fine
 unfolding systemRules
-system-records s even few e = rw (eq-eqb _ _ even, le-leb _ _ few, e)
+system-records s even few e = rw (le-leb (length s) 1024 (omega arith), eq-eqb _ _ even, e)
 
 -- refusal 10
 pub room-fits : (output room : ℕ) → output ≤ room → wordRoom output room ≡ Fine
@@ -152,19 +152,17 @@ module _ (source letters : List ℕ) (i n : ℕ) (here : take n letters ≡ free
       let same : i ≡ 63 = omega arith in
       here ∙ ap (λ (k : ℕ). freelyReduce bytes (take k source)) same ∙ ap (freelyReduce bytes) (word-full source i rest sized h l)
 
--- what a system that passes tells of its length
-pub system-even : (s : List ℕ) → systemRules s ≡ Fine → length s % 64 ≡ 0
+-- what a system that passes tells of its length, and of its records
+pub system-size : (s : List ℕ) → systemRules s ≡ Fine → length s ≤ 1024
 unfolding systemRules
-system-even s e = eqb-true _ _ (must-fine _ 1 0 (fine-first (must (eqb (length s % 64) 0) 1 0) _ e))
+system-size s e = leb-true _ _ (must-fine _ 2 0 (fine-first (must (leb (length s) 1024) 2 0) _ e))
 
 pub system-few : (s : List ℕ) → systemRules s ≡ Fine → length s / 64 ≤ 16
-unfolding systemRules
-system-few s e =
-    leb-true _ _
-    (must-fine _ 2 0 (fine-first (must (leb (slots s) 16) 2 0) (eachBelow (slotRules s) (slots s)) (fine-next (must (eqb (length s % 64) 0) 1 0) _ e)))
+system-few s e = omega (arith, system-size s e)
 
-pub system-size : (s : List ℕ) → systemRules s ≡ Fine → length s ≤ 1024
-system-size s e = omega (arith, system-even s e, system-few s e)
+pub records-passed : (s : List ℕ) → systemRules s ≡ Fine → eachBelow (slotRules s) (slots s) ≡ Fine
+unfolding systemRules
+records-passed s e = fine-next (must (eqb (length s % 64) 0) 1 0) _ (fine-next (must (leb (length s) 1024) 2 0) _ e)
 
 pub room-enough : (output room : ℕ) → wordRoom output room ≡ Fine → output ≤ room
 unfolding wordRoom

@@ -11,10 +11,10 @@ use Rattle.slots.specs.Systems.{recordAt, slots}
 abbrev pub slotRules : List ℕ → ℕ → Checked
 slotRules s k = recordRules (recordAt s k) (k * 64)
 
--- 1. "The system's length is not a multiple of 64." 2. "The system has more than 16 records." Then "Rules 3 to 5 are tried record by
+-- 2. "The system has more than 1,024 bytes". 1. "The system's length is not a multiple of 64." Then "Rules 3 to 5 are tried record by
 -- record".
 unfoldable pub systemRules : List ℕ → Checked
-systemRules s = must (eqb (length s % 64) 0) 1 0 andThen must (leb (slots s) 16) 2 0 andThen eachBelow (slotRules s) (slots s)
+systemRules s = must (leb (length s) 1024) 2 0 andThen must (eqb (length s % 64) 0) 1 0 andThen eachBelow (slotRules s) (slots s)
 
 -- 10. "The words buffer is shorter than the output (64 times the records; 64 for multiply)."
 unfoldable pub wordRoom : ℕ → ℕ → Checked

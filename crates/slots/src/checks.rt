@@ -8,24 +8,26 @@ use records::answers::Checked;
 use records::answers::check_that;
 use records::record::RECORD;
 use records::record::check_record;
+use records::refusals::SYSTEM_TOO_LONG;
 use records::refusals::SYSTEM_UNEVEN;
-use records::refusals::TOO_MANY_RECORDS;
 use records::refusals::WORDS_BUFFER_SHORT;
 
-// Refusals 1 to 5.
+// The bytes of 16 records, the most that a system has.
+const LONGEST: usize = 1024;
+
+// Refusals 2, 1 and 3 to 5.
 pub fn check_system(system: &[u8]) -> Checked
     ensures { λ r. ⌜ r ≡ systemRules (now (system .entry)) ⌝ }
 {
-    let n = system.len() / RECORD;
+    let short = check_that(system.len() <= LONGEST, SYSTEM_TOO_LONG, 0);
+    let Checked::Fine = short else {
+        return short;
+    };
     let even = check_that(system.len() % RECORD == 0, SYSTEM_UNEVEN, 0);
     let Checked::Fine = even else {
         return even;
     };
-    let few = check_that(n <= 16, TOO_MANY_RECORDS, 0);
-    let Checked::Fine = few else {
-        return few;
-    };
-    check_records(system, n)
+    check_records(system, system.len() / RECORD)
 }
 
 // Refusals 3 to 5, record by record.
