@@ -4,11 +4,13 @@
 use crate::answers::{MEMBER, REFUSED};
 use crate::member;
 use crate::moves::LOG_RECORD;
-use crate::records::{MOST_RECORDS, RECORD};
-use crate::refusals::{SYSTEM_UNEVEN, TARGET_OR_PRODUCT_MALFORMED, TOO_MANY_RECORDS};
+use crate::records::{LONGEST_SYSTEM, RECORD};
+use crate::refusals::{SYSTEM_TOO_LONG, SYSTEM_UNEVEN, TARGET_OR_PRODUCT_MALFORMED};
 
 /// The most moves that the program's log buffer holds.
 pub const MOST_MOVES: usize = 16_384;
+/// The most bytes that the program takes, those of the longest system and a target.
+pub const LONGEST_INPUT: usize = LONGEST_SYSTEM + RECORD;
 
 /// The word yes or the word no.
 fn yes_or_no(yes: bool) -> &'static str {
@@ -29,11 +31,11 @@ pub fn program(input: &[u8]) -> Vec<u8> {
     if input.is_empty() {
         return refusal_line(TARGET_OR_PRODUCT_MALFORMED, 0).into_bytes();
     }
+    if input.len() > LONGEST_INPUT {
+        return refusal_line(SYSTEM_TOO_LONG, 0).into_bytes();
+    }
     if !input.len().is_multiple_of(RECORD) {
         return refusal_line(SYSTEM_UNEVEN, 0).into_bytes();
-    }
-    if input.len() > RECORD * (MOST_RECORDS + 1) {
-        return refusal_line(TOO_MANY_RECORDS, 0).into_bytes();
     }
     let (system, target) = input.split_at(input.len() - RECORD);
     let mut words = vec![0; system.len()];
@@ -100,22 +102,71 @@ a..............................................................
         assert_eq!(printed(&["a"]), expected);
     }
 
-    /// The refusals by the input's length, of which 16 records and a target is the longest to pass.
+    /// The refusals by the input's length, of which 1,088 bytes is the longest to pass.
     #[test]
     fn lengths() {
-        let records = system(&["a"; 18]);
+        let records = system(&["a"; 36]);
+        let zeros = [0; 2304];
         for (length, expected) in [
             (0, "refused 6 at 0\n"),
+            (1, "refused 1 at 0\n"),
             (63, "refused 1 at 0\n"),
             (65, "refused 1 at 0\n"),
-            (1089, "refused 1 at 0\n"),
-            (1151, "refused 1 at 0\n"),
+            (1023, "refused 1 at 0\n"),
+            (1025, "refused 1 at 0\n"),
+            (1087, "refused 1 at 0\n"),
+            (1089, "refused 2 at 0\n"),
+            (1151, "refused 2 at 0\n"),
             (1152, "refused 2 at 0\n"),
+            (1153, "refused 2 at 0\n"),
+            (1500, "refused 2 at 0\n"),
+            (1600, "refused 2 at 0\n"),
+            (2300, "refused 2 at 0\n"),
         ] {
-            assert_eq!(program(&records[..length]), expected.as_bytes(), "{length}");
+            for input in [&records[..length], &zeros[..length]] {
+                assert_eq!(program(input), expected.as_bytes(), "{length}");
+            }
         }
+        let output = program(&records[..1024]);
+        assert!(output.starts_with(b"moves 14 rank 1 independent no member yes\n"));
         let output = program(&records[..1088]);
         assert!(output.starts_with(b"moves 15 rank 1 independent no member yes\n"));
+        let expected = b"refused 3 at 63\n";
+        assert_eq!(program(&zeros[..1088]), expected);
+    }
+
+    /// The refusal by the input's length in the former order: uneven, then more than 17 records.
+    fn former_refusal(length: usize) -> Option<&'static str> {
+        if length == 0 {
+            Some("refused 6 at 0\n")
+        } else if !length.is_multiple_of(64) {
+            Some("refused 1 at 0\n")
+        } else if length / 64 > 17 {
+            Some("refused 2 at 0\n")
+        } else {
+            None
+        }
+    }
+
+    /// Only uneven inputs of more than 1,088 bytes are answered otherwise than in the former order.
+    #[test]
+    fn change_of_the_former_order() {
+        let records = system(&["a"; 36]);
+        let mut changed = 0;
+        for length in 0..=2300 {
+            let mut expected = former_refusal(length);
+            if length > 1088 && !length.is_multiple_of(64) {
+                assert_eq!(expected, Some("refused 1 at 0\n"), "{length}");
+                expected = Some("refused 2 at 0\n");
+                changed += 1;
+            }
+            let output = program(&records[..length]);
+            match expected {
+                Some(line) => assert_eq!(output, line.as_bytes(), "{length}"),
+                None => assert!(output.starts_with(b"moves "), "{length}"),
+            }
+        }
+        assert_eq!(changed, 1194);
     }
 
     /// Broken records are refused before a broken target, which gets 6 at its own place.

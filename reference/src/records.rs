@@ -8,6 +8,8 @@ use crate::words::{Word, LONGEST};
 pub const RECORD: usize = 64;
 /// The most records that a system may have.
 pub const MOST_RECORDS: usize = 16;
+/// The most bytes that a system may have, those of 16 records.
+pub const LONGEST_SYSTEM: usize = RECORD * MOST_RECORDS;
 
 const STOP: u8 = b'.';
 const LINE_FEED: u8 = b'\n';
@@ -38,14 +40,14 @@ fn record_letters(record: &[u8; RECORD]) -> Result<&[u8], Refusal> {
     Ok(letters)
 }
 
-/// Checks a system by rules 1 to 5 and freely reduces its words.
+/// Checks a system by rules 1 to 5, of which 2 comes first, and freely reduces its words.
 pub fn read_system(system: &[u8]) -> Result<System, Refusal> {
+    if system.len() > LONGEST_SYSTEM {
+        return Err(Refusal::new(SYSTEM_TOO_LONG, 0));
+    }
     let (records, rest) = system.as_chunks::<RECORD>();
     if !rest.is_empty() {
         return Err(Refusal::new(SYSTEM_UNEVEN, 0));
-    }
-    if records.len() > MOST_RECORDS {
-        return Err(Refusal::new(TOO_MANY_RECORDS, 0));
     }
     let mut system = System {
         words: [Word::EMPTY; MOST_RECORDS],

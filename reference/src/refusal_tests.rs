@@ -13,34 +13,132 @@ fn refused(number: u64, place: usize) -> Answer {
     Answer::refused(Refusal::new(number, place))
 }
 
-/// Checks that every call refuses this system with the same number and place and writes nothing.
-fn every_call_refuses(given: &[u8], number: u64, place: usize) {
-    let expected = refused(number, place);
-    let (mut words, mut log, mut product) = ([FILL; 64], [FILL; 5], [FILL; 3]);
-    assert_eq!(tidy(given, &mut words), expected);
-    assert_eq!(reduce(given, &mut words, &mut log), expected);
-    assert_eq!(test(given), expected);
-    assert_eq!(ask(given, b"bad", &mut product), expected);
-    let answer = member(given, b"bad", &mut words, &mut log, &mut product);
-    assert_eq!(answer, expected);
-    for direction in Direction::BOTH {
-        assert_eq!(replay(given, b"a1", direction, &mut words), expected);
-    }
-    assert_eq!(multiply(given, b"bad", &mut words), expected);
-    assert_eq!((words, log, product), ([FILL; 64], [FILL; 5], [FILL; 3]));
+/// The answers of every call to this system, with a target, a product and a log that are too short,
+/// and with little room, of which the last 8 bytes are a log of 5 and a product buffer of 3.
+fn answers_of_every_call(given: &[u8], words: &mut [u8; 64], rest: &mut [u8; 8]) -> [Answer; 8] {
+    let (log, product) = rest.split_at_mut(5);
+    let replayed = Direction::BOTH.map(|direction| replay(given, b"a1", direction, words));
+    [
+        tidy(given, words),
+        reduce(given, words, log),
+        test(given),
+        ask(given, b"bad", product),
+        member(given, b"bad", words, log, product),
+        replayed[0],
+        replayed[1],
+        multiply(given, b"bad", words),
+    ]
 }
 
-/// Refusals 1 and 2, and 1 before 2.
+/// Checks that every call refuses this system with the same number and place and writes nothing.
+fn every_call_refuses(given: &[u8], number: u64, place: usize) {
+    let (mut words, mut rest) = ([FILL; 64], [FILL; 8]);
+    let answers = answers_of_every_call(given, &mut words, &mut rest);
+    assert_eq!(answers, [refused(number, place); 8], "{}", given.len());
+    assert_eq!((words, rest), ([FILL; 64], [FILL; 8]));
+}
+
+/// Checks that no call refuses this system for its length.
+fn no_call_refuses_the_length(given: &[u8]) {
+    for answer in answers_of_every_call(given, &mut [FILL; 64], &mut [FILL; 8]) {
+        let of_length = [SYSTEM_UNEVEN, SYSTEM_TOO_LONG].contains(&answer.number);
+        assert!(!of_length, "{}", given.len());
+    }
+}
+
+/// Systems of 2,304 bytes: a sound one, whose first byte is an a already, and three whose first
+/// record breaks rule 3, 4 or 5.
+fn long_systems() -> [Vec<u8>; 4] {
+    let sound = system(&["ab"; 36]);
+    [(0, b'a'), (63, b'.'), (7, b'?'), (9, b'x')].map(|(place, byte)| {
+        let mut given = sound.clone();
+        given[place] = byte;
+        given
+    })
+}
+
+/// Refusals 2 and 1 at every length to 2,300, and 2 before 1 and both before all others.
 #[test]
 fn lengths() {
-    let given = system(&["ab"; 20]);
-    for length in 0..given.len() {
-        if length % 64 != 0 {
-            every_call_refuses(&given[..length], SYSTEM_UNEVEN, 0);
-        } else if length > 1024 {
-            every_call_refuses(&given[..length], TOO_MANY_RECORDS, 0);
+    for given in long_systems() {
+        for length in 0..=2300 {
+            let given = &given[..length];
+            if length > 1024 {
+                every_call_refuses(given, SYSTEM_TOO_LONG, 0);
+            } else if !length.is_multiple_of(64) {
+                every_call_refuses(given, SYSTEM_UNEVEN, 0);
+            } else {
+                no_call_refuses_the_length(given);
+            }
         }
     }
+}
+
+/// The lengths around 16 and 17 records and some others, one by one, of which 1,024 bytes pass.
+#[test]
+fn telling_lengths() {
+    let given = system(&["ab"; 36]);
+    for (length, number) in [
+        (63, SYSTEM_UNEVEN),
+        (1023, SYSTEM_UNEVEN),
+        (1025, SYSTEM_TOO_LONG),
+        (1087, SYSTEM_TOO_LONG),
+        (1088, SYSTEM_TOO_LONG),
+        (1089, SYSTEM_TOO_LONG),
+        (1500, SYSTEM_TOO_LONG),
+        (1600, SYSTEM_TOO_LONG),
+        (2300, SYSTEM_TOO_LONG),
+    ] {
+        every_call_refuses(&given[..length], number, 0);
+    }
+    let given = &given[..1024];
+    let (mut words, mut log) = ([FILL; 1024], [FILL; 60]);
+    assert_eq!(tidy(given, &mut words), Answer::done());
+    assert_eq!(test(given), Answer::done());
+    for direction in Direction::BOTH {
+        assert_eq!(replay(given, b"", direction, &mut words), Answer::done());
+    }
+    assert_eq!(multiply(given, &record("pA"), &mut words), Answer::done());
+    let answer = ask(given, &record("ab"), &mut words);
+    assert_eq!(answer, refused(SYSTEM_NOT_REDUCED, 0));
+    let answer = reduce(given, &mut words, &mut log);
+    assert_eq!(answer.numbers(), [DONE, 0, 0, 15, 1, 0, 0]);
+    let mut product = [FILL; 64];
+    let answer = member(given, &record("ab"), &mut words, &mut log, &mut product);
+    assert_eq!(answer.numbers(), [MEMBER, 0, 0, 15, 1, 0, 0]);
+    assert_eq!(ask(&words, &record("ab"), &mut product).verdict, MEMBER);
+}
+
+/// The number by the system's length in the former order: uneven, then more than 16 records.
+fn former_number(length: usize) -> Option<u64> {
+    if !length.is_multiple_of(64) {
+        Some(1)
+    } else if length / 64 > 16 {
+        Some(2)
+    } else {
+        None
+    }
+}
+
+/// Only uneven systems of more than 1,024 bytes are answered otherwise than in the former order.
+#[test]
+fn change_of_the_former_order() {
+    let mut changed = 0;
+    for given in long_systems() {
+        for length in 0..=2300 {
+            let mut expected = former_number(length);
+            if length > 1024 && !length.is_multiple_of(64) {
+                assert_eq!(expected, Some(1), "{length}");
+                expected = Some(2);
+                changed += 1;
+            }
+            match expected {
+                Some(number) => every_call_refuses(&given[..length], number, 0),
+                None => no_call_refuses_the_length(&given[..length]),
+            }
+        }
+    }
+    assert_eq!(changed, 4 * 1257);
 }
 
 /// Refusals 3, 4 and 5 at every place, and their order within and between records.

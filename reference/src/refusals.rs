@@ -2,7 +2,7 @@
 //! The refusal of show has no answer that could carry its number, so it has no name here.
 
 pub const SYSTEM_UNEVEN: u64 = 1;
-pub const TOO_MANY_RECORDS: u64 = 2;
+pub const SYSTEM_TOO_LONG: u64 = 2;
 pub const NO_LINE_FEED: u64 = 3;
 pub const NEITHER_LETTER_NOR_STOP: u64 = 4;
 pub const LETTER_AFTER_STOP: u64 = 5;

@@ -1,7 +1,9 @@
-//! The worked sheets with their expected outcomes, as data for the tests and for the comparison.
-//! Sheets that only tidy, and the sheets about limits, are tests of their own below.
+//! The worked sheets with their expected outcomes, as data for the tests, for the comparison and
+//! for the cases of the program. Sheets without a label are tests of their own below.
 
-use crate::refusals::{Refusal, PRODUCT_BUFFER_SHORT, SYSTEM_NOT_REDUCED};
+use crate::refusals::{
+    Refusal, PRODUCT_BUFFER_SHORT, SYSTEM_NOT_REDUCED, SYSTEM_TOO_LONG, SYSTEM_UNEVEN,
+};
 
 /// What a sheet expects of its target.
 #[derive(Clone, Copy, Debug, PartialEq, Eq)]
@@ -195,11 +197,62 @@ pub const ASK_SHEETS: [AskSheet; 6] = [
     },
 ];
 
+/// What the bytes of a sheet on lengths are given to.
+#[derive(Clone, Copy, Debug, PartialEq, Eq)]
+pub enum GivenTo {
+    Tidy,
+    Program,
+}
+
+/// One worked sheet on lengths, which holds whatever the bytes are.
+pub struct LengthSheet {
+    pub name: &'static str,
+    pub length: usize,
+    pub given_to: GivenTo,
+    pub answer: Refusal,
+}
+
+/// The sheets on lengths, from L1 on.
+pub const LENGTH_SHEETS: [LengthSheet; 5] = [
+    LengthSheet {
+        name: "L1",
+        length: 1023,
+        given_to: GivenTo::Tidy,
+        answer: Refusal::new(SYSTEM_UNEVEN, 0),
+    },
+    LengthSheet {
+        name: "L2",
+        length: 1025,
+        given_to: GivenTo::Tidy,
+        answer: Refusal::new(SYSTEM_TOO_LONG, 0),
+    },
+    LengthSheet {
+        name: "L3",
+        length: 1500,
+        given_to: GivenTo::Tidy,
+        answer: Refusal::new(SYSTEM_TOO_LONG, 0),
+    },
+    LengthSheet {
+        name: "L4",
+        length: 1087,
+        given_to: GivenTo::Program,
+        answer: Refusal::new(SYSTEM_UNEVEN, 0),
+    },
+    LengthSheet {
+        name: "L5",
+        length: 1089,
+        given_to: GivenTo::Program,
+        answer: Refusal::new(SYSTEM_TOO_LONG, 0),
+    },
+];
+
 #[cfg(test)]
 mod tests {
     use super::*;
     use crate::answers::{Answer, DONE, MEMBER, NOT_A_MEMBER, REFUSED};
     use crate::decision::check_member;
+    use crate::program::program;
+    use crate::random::Random;
     use crate::records::{record, system};
     use crate::reduction::{reduction, Reduction};
     use crate::refusals::*;
@@ -308,6 +361,30 @@ mod tests {
         }
     }
 
+    /// Every sheet on lengths, with sound records, with one byte alone and with random bytes.
+    #[test]
+    fn length_sheets() {
+        let mut random = Random::new(16);
+        for sheet in &LENGTH_SHEETS {
+            let Refusal { number, place } = sheet.answer;
+            let mut contents: Vec<Vec<u8>> = b"\0.\na\xFF".map(|byte| vec![byte; 1500]).to_vec();
+            contents.push(system(&["ab"; 24]));
+            contents.push((0..1500).map(|_| random.byte()).collect());
+            for bytes in contents {
+                let bytes = &bytes[..sheet.length];
+                let mut words = [FILL; 1536];
+                if sheet.given_to == GivenTo::Tidy {
+                    let answer = tidy(bytes, &mut words);
+                    assert_eq!(answer, Answer::refused(sheet.answer), "{}", sheet.name);
+                    assert_eq!(words, [FILL; 1536], "{}", sheet.name);
+                } else {
+                    let line = format!("refused {number} at {place}\n");
+                    assert_eq!(program(bytes), line.as_bytes(), "{}", sheet.name);
+                }
+            }
+        }
+    }
+
     /// Nielsen's four words are reduced to three words of 7 letters in all.
     #[test]
     fn nielsens_four_words() {
@@ -327,7 +404,7 @@ mod tests {
         assert_eq!(tidy(&records[..1024], &mut words), Answer::done());
         assert_eq!(&words[..1024], &records[..1024]);
         assert_eq!(words[1024..], [FILL; 64]);
-        for (length, number) in [(1088, TOO_MANY_RECORDS), (63, SYSTEM_UNEVEN)] {
+        for (length, number) in [(1088, SYSTEM_TOO_LONG), (63, SYSTEM_UNEVEN)] {
             let mut words = [FILL; 1088];
             let answer = tidy(&records[..length], &mut words);
             assert_eq!(answer.numbers(), [REFUSED, number, 0, 0, 0, 0, 0]);

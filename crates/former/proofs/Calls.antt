@@ -1,5 +1,5 @@
--- Every call that takes a system, as a function of what the tests of its system find: so one law about those tests tells what moved of its
--- answer and of each lent buffer.
+-- Every call but show, whose one test is its own, as a function of what the tests of its system find: so one law about those tests tells what
+-- differs in its answer and in each lent buffer. The entries for C give these answers as numbers, so it holds of them too.
 use Prim.Native.Nat.{_*_, ℕ}
 use mathlib.Core.Bool.{Bool}
 use mathlib.Core.List.{List}
@@ -27,16 +27,17 @@ use Rattle.reduction.specs.declared.answers.Tested.{Tested}
 use Rattle.factoring.specs.TargetProduct.{isFound, productAfter}
 use Rattle.asking.specs.Asking.{askAnswer, askFound, askProduct, askedOf, questionRules, readyRules, verdictOf}
 use Rattle.membership.specs.Membership.{memberAnswer, memberFound, memberLog, memberProduct, memberTests, memberWords}
-use Rattle.former.proofs.Order.{Moved, formerSystemRules, moved-by, system-order}
+use Rattle.former.proofs.Order.{SameUnless, formerSystemRules, same-by, system-same-unless}
 
--- a call on a system, given as a function of what the tests of the system find
-pub record CallMoved {A : Type 0} (s : List ℕ) (call : Checked → A) (given refused : A) : Type 0 where
+-- `given` is what a call gives on a system, and `call` the same as a function of what the tests of the system find
+pub record CallSameUnless {A : Type 0} (s : List ℕ) (call : Checked → A) (given refused : A) : Type 0 where
   pub asItIs : given ≡ call (systemRules s)
-  -- with the former tests it is the same, unless the system is longer than 1,024 bytes and uneven; and then it is refused now
-  pub asItWas : Moved 1024 (length s) given (call (formerSystemRules s)) refused
+  -- with the former tests it is the same, unless the system is longer than 1,024 bytes and uneven; there it is `refused` now
+  pub asItWas : SameUnless 1024 (length s) given (call (formerSystemRules s)) refused
 
-call-moved : {A : Type 0} (s : List ℕ) (call : Checked → A) → CallMoved s call (call (systemRules s)) (call (refusal 2 0))
-call-moved s call = record { asItIs = refl; asItWas = moved-by call 1024 (length s) (system-order s) }
+-- so it is with every function of what they find
+call-same-unless : {A : Type 0} (s : List ℕ) (call : Checked → A) → CallSameUnless s call (call (systemRules s)) (call (refusal 2 0))
+call-same-unless s call = record { asItIs = refl; asItWas = same-by call 1024 (length s) (system-same-unless s) }
 
 -- tidy: its answer and its buffer
 abbrev pub tidyWith : Checked → List ℕ → List ℕ → Answer × List ℕ
@@ -44,17 +45,17 @@ tidyWith found s buffer =
     let tests : Checked = found andThen wordRoom (slots s * 64) (length buffer) in
     (answerOf tests, onFine tests (written (bytesOf (freelyReducedWords s)) buffer) buffer)
 
-pub tidy-moved : (s buffer : List ℕ)
-    → CallMoved s (λ found. tidyWith found s buffer) (tidyAnswer s buffer, tidyBuffer s buffer) (answerOf (refusal 2 0), buffer)
+pub tidy-same-unless : (s buffer : List ℕ)
+    → CallSameUnless s (λ found. tidyWith found s buffer) (tidyAnswer s buffer, tidyBuffer s buffer) (answerOf (refusal 2 0), buffer)
 unfolding systemRoom
-tidy-moved s buffer = call-moved s (λ found. tidyWith found s buffer)
+tidy-same-unless s buffer = call-same-unless s (λ found. tidyWith found s buffer)
 
 -- test
 abbrev pub testWith : Checked → List ℕ → Tested
 testWith found s = testedOf found (freelyReducedWords s)
 
-pub test-moved : (s : List ℕ) → CallMoved s (λ found. testWith found s) (testAnswer s) (refusedTest (refusal 2 0))
-test-moved s = call-moved s (λ found. testWith found s)
+pub test-same-unless : (s : List ℕ) → CallSameUnless s (λ found. testWith found s) (testAnswer s) (refusedTest (refusal 2 0))
+test-same-unless s = call-same-unless s (λ found. testWith found s)
 
 -- reduce: its answer, the words and the log
 abbrev pub reduceWith : Checked → List ℕ → List ℕ → List ℕ → Reduction × List ℕ × List ℕ
@@ -63,11 +64,11 @@ reduceWith found s words log =
     let S : List (List ℕ) = freelyReducedWords s in
     (reductionOf (runTests tests S (roomFor log)) Done S (roomFor log), wordsAfter tests S (roomFor log) words, logAfter tests S (roomFor log) log)
 
-pub reduce-moved : (s words log : List ℕ)
-    → CallMoved s (λ found. reduceWith found s words log) (reduceAnswer s words log, reduceWords s words log, reduceLog s words log)
+pub reduce-same-unless : (s words log : List ℕ)
+    → CallSameUnless s (λ found. reduceWith found s words log) (reduceAnswer s words log, reduceWords s words log, reduceLog s words log)
     (refusedReduction (refusal 2 0), words, log)
 unfolding systemRoom
-reduce-moved s words log = call-moved s (λ found. reduceWith found s words log)
+reduce-same-unless s words log = call-same-unless s (λ found. reduceWith found s words log)
 
 -- ask: its answer and the product
 abbrev pub askWith : Checked → List ℕ → List ℕ → List ℕ → Answer × List ℕ
@@ -75,10 +76,10 @@ askWith found s t product =
     let tests : Checked = (found andThen targetRules t) andThen readyRules (freelyReducedWords s) (length product) in
     (askedOf tests (verdictOf (isFound (askFound s t))), onFine tests (productAfter (askFound s t) product) product)
 
-pub ask-moved : (s t product : List ℕ)
-    → CallMoved s (λ found. askWith found s t product) (askAnswer s t product, askProduct s t product) (answerOf (refusal 2 0), product)
+pub ask-same-unless : (s t product : List ℕ)
+    → CallSameUnless s (λ found. askWith found s t product) (askAnswer s t product, askProduct s t product) (answerOf (refusal 2 0), product)
 unfolding questionRules
-ask-moved s t product = call-moved s (λ found. askWith found s t product)
+ask-same-unless s t product = call-same-unless s (λ found. askWith found s t product)
 
 -- member: its answer, the words, the log and the product
 abbrev pub memberWith : Checked → List ℕ → List ℕ → List ℕ → List ℕ → List ℕ → Reduction × List ℕ × List ℕ × List ℕ
@@ -92,12 +93,12 @@ memberWith found s t words log product =
       onFine (runTests tests S (roomFor log)) (productAfter product-of product) product,
     )
 
-pub member-moved : (s t words log product : List ℕ)
-    → CallMoved s (λ found. memberWith found s t words log product)
+pub member-same-unless : (s t words log product : List ℕ)
+    → CallSameUnless s (λ found. memberWith found s t words log product)
     (memberAnswer s t words log product, memberWords s t words log product, memberLog s t words log product, memberProduct s t words log product)
     (refusedReduction (refusal 2 0), words, log, product)
 unfolding memberTests
-member-moved s t words log product = call-moved s (λ found. memberWith found s t words log product)
+member-same-unless s t words log product = call-same-unless s (λ found. memberWith found s t words log product)
 
 -- replay: its answer and its buffer
 abbrev pub replayWith : Checked → List ℕ → List ℕ → Bool → List ℕ → Answer × List ℕ
@@ -106,11 +107,11 @@ replayWith found s log backward buffer =
     (found andThen logRules (slots s) log andThen wordRoom (slots s * 64) (length buffer)) andThen runRules backward (freelyReducedWords s) log in
     (answerOf tests, onFine tests (written (bytesOf (replayed backward (freelyReducedWords s) (movesIn log))) buffer) buffer)
 
-pub replay-moved : (s log : List ℕ) (backward : Bool) (buffer : List ℕ)
-    → CallMoved s (λ found. replayWith found s log backward buffer) (replayAnswer s log backward buffer, replayBuffer s log backward buffer)
+pub replay-same-unless : (s log : List ℕ) (backward : Bool) (buffer : List ℕ)
+    → CallSameUnless s (λ found. replayWith found s log backward buffer) (replayAnswer s log backward buffer, replayBuffer s log backward buffer)
     (answerOf (refusal 2 0), buffer)
 unfolding replayRules replayTests
-replay-moved s log backward buffer = call-moved s (λ found. replayWith found s log backward buffer)
+replay-same-unless s log backward buffer = call-same-unless s (λ found. replayWith found s log backward buffer)
 
 -- multiply: its answer and its buffer
 abbrev pub multiplyWith : Checked → List ℕ → List ℕ → List ℕ → Answer × List ℕ
@@ -119,7 +120,7 @@ multiplyWith found s p buffer =
     (found andThen targetRules p andThen slotRule (slots s) p andThen wordRoom 64 (length buffer)) andThen must (leb (length (productWord s p)) 63) 12 0 in
     (answerOf tests, onFine tests (written (recordOf (productWord s p)) buffer) buffer)
 
-pub multiply-moved : (s p buffer : List ℕ)
-    → CallMoved s (λ found. multiplyWith found s p buffer) (multiplyAnswer s p buffer, multiplyBuffer s p buffer) (answerOf (refusal 2 0), buffer)
+pub multiply-same-unless : (s p buffer : List ℕ)
+    → CallSameUnless s (λ found. multiplyWith found s p buffer) (multiplyAnswer s p buffer, multiplyBuffer s p buffer) (answerOf (refusal 2 0), buffer)
 unfolding multiplyRules multiplyTests
-multiply-moved s p buffer = call-moved s (λ found. multiplyWith found s p buffer)
+multiply-same-unless s p buffer = call-same-unless s (λ found. multiplyWith found s p buffer)

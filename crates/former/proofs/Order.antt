@@ -1,5 +1,5 @@
--- The former order of refusals 1 and 2, under which a length was judged even before it was judged too long. It stands here for the laws of
--- this crate alone, which say where the order matters.
+-- The former order of refusals 1 and 2: whether a length is a multiple of 64 was tested before whether it is too long. It stands here for the
+-- laws of this crate alone, which say where the order matters.
 use Prim.Native.Nat.{_%_, _<_, _≤_, ℕ}
 use mathlib.Core.Bool.{Bool, false, not, true}
 use mathlib.Core.List.{List}
@@ -26,18 +26,18 @@ abbrev pub formerInputRules : ℕ → Checked
 formerInputRules n = must (not (eqb n 0)) 6 0 andThen must (eqb (n % 64) 0) 1 0 andThen must (leb n 1088) 2 0
 
 -- longer than so many bytes, and not a multiple of 64
-abbrev pub LongUneven : ℕ → ℕ → Type 0
-LongUneven most n = (most < n) × ((n % 64 ≡ 0) → ⊥)
+abbrev pub TooLongAndUneven : ℕ → ℕ → Type 0
+TooLongAndUneven most n = (most < n) × ((n % 64 ≡ 0) → ⊥)
 
--- what is given to a length is what was given formerly, unless the length is such a one; and then it is a refusal
-pub record Moved {A : Type 0} (most n : ℕ) (given former refused : A) : Type 0 where
-  pub elsewhere : (LongUneven most n → ⊥) → given ≡ former
-  pub there : LongUneven most n → given ≡ refused
+-- what is given for a length of n bytes is the former, unless n is more than `most` and not a multiple of 64; there it is `refused`
+pub record SameUnless {A : Type 0} (most n : ℕ) (given former refused : A) : Type 0 where
+  pub elsewhere : (TooLongAndUneven most n → ⊥) → given ≡ former
+  pub there : TooLongAndUneven most n → given ≡ refused
 
--- so it is with all that depends on it
-pub moved-by : {A B : Type 0} (f : A → B) (most n : ℕ) {given former refused : A} → Moved most n given former refused
-    → Moved most n (f given) (f former) (f refused)
-moved-by f most n m = record { elsewhere = λ h. ap f (m .elsewhere h); there = λ h. ap f (m .there h) }
+-- so it is with every function of what is given
+pub same-by : {A B : Type 0} (f : A → B) (most n : ℕ) {given former refused : A} → SameUnless most n given former refused
+    → SameUnless most n (f given) (f former) (f refused)
+same-by f most n m = record { elsewhere = λ h. ap f (m .elsewhere h); there = λ h. ap f (m .there h) }
 
 -- a chain of tests with nothing after it, and with its tests grouped otherwise
 then-nothing : (c : Checked) → c ≡ c andThen Fine
@@ -48,10 +48,10 @@ then-grouped : (c d e : Checked) → c andThen d andThen e ≡ (c andThen d) and
 then-grouped Fine d e = refl
 then-grouped (Failed f) d e = refl
 
--- the two tests of a length, in either order; `few` is the former one of too many
-length-order : (most n : ℕ) (few : Bool) → (n ≤ most → few ≡ true) → (most < n → n % 64 ≡ 0 → few ≡ false)
-    → Moved most n (must (leb n most) 2 0 andThen must (eqb (n % 64) 0) 1 0) (must (eqb (n % 64) 0) 1 0 andThen must few 2 0) (refusal 2 0)
-length-order most n few short long =
+-- the two tests of a length, in either order; `few` says whether the former test of refusal 2 passes
+length-same-unless : (most n : ℕ) (few : Bool) → (n ≤ most → few ≡ true) → (most < n → n % 64 ≡ 0 → few ≡ false)
+    → SameUnless most n (must (leb n most) 2 0 andThen must (eqb (n % 64) 0) 1 0) (must (eqb (n % 64) 0) 1 0 andThen must few 2 0) (refusal 2 0)
+length-same-unless most n few short long =
     record {
       elsewhere = λ h.
           elim (bool-cases (leb n most)) [
@@ -66,27 +66,27 @@ length-order most n few short long =
       there = λ h. rw (lt-leb n most (h .0)) refl;
     }
 
--- the order matters to a system longer than 1,024 bytes and uneven, which gets 2 now
-pub system-order : (s : List ℕ) → Moved 1024 (length s) (systemRules s) (formerSystemRules s) (refusal 2 0)
+-- the two orders find the same in every system but one longer than 1,024 bytes and uneven, and there 2 is found now
+pub system-same-unless : (s : List ℕ) → SameUnless 1024 (length s) (systemRules s) (formerSystemRules s) (refusal 2 0)
 unfolding systemRules
-system-order s =
+system-same-unless s =
     let short : Checked = must (leb (length s) 1024) 2 0 in
     let even : Checked = must (eqb (length s % 64) 0) 1 0 in
     let few : Checked = must (leb (slots s) 16) 2 0 in
     let records : Checked = eachBelow (slotRules s) (slots s) in
-    let tests : Moved 1024 (length s) (short andThen even) (even andThen few) (refusal 2 0) =
-    length-order 1024 (length s) (leb (slots s) 16) (λ h. le-leb (slots s) 16 (omega arith)) (λ h e. lt-leb (slots s) 16 (omega arith)) in
+    let tests : SameUnless 1024 (length s) (short andThen even) (even andThen few) (refusal 2 0) =
+    length-same-unless 1024 (length s) (leb (slots s) 16) (λ h. le-leb (slots s) 16 (omega arith)) (λ h e. lt-leb (slots s) 16 (omega arith)) in
     record {
       elsewhere = λ h.
           then-grouped short even records ∙ ap (λ (c : Checked). c andThen records) (tests .elsewhere h) ∙ sym (then-grouped even few records);
       there = λ h. then-grouped short even records ∙ ap (λ (c : Checked). c andThen records) (tests .there h);
     }
 
--- and to an input longer than 1,088 bytes and uneven
-pub input-order : (n : ℕ) → Moved 1088 n (inputRules n) (formerInputRules n) (refusal 2 0)
+-- and in the length of every input but one over 1,088 bytes and uneven
+pub input-same-unless : (n : ℕ) → SameUnless 1088 n (inputRules n) (formerInputRules n) (refusal 2 0)
 unfolding inputRules
-input-order n =
-    let tests = length-order 1088 n (leb n 1088) (λ h. le-leb n 1088 h) (λ h e. lt-leb n 1088 h) in
+input-same-unless n =
+    let tests = length-same-unless 1088 n (leb n 1088) (λ h. le-leb n 1088 h) (λ h e. lt-leb n 1088 h) in
     record {
       elsewhere = λ h. ap (λ (c : Checked). must (not (eqb n 0)) 6 0 andThen c) (tests .elsewhere h);
       there = λ h. rw (ne-eqb n 0 (omega (arith, h .0))) (tests .there h);

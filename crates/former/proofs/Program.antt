@@ -13,8 +13,8 @@ use Rattle.membership.specs.Membership.{memberTests}
 use Rattle.lines.specs.Lines.{answerLines, linesAfter, refusalIn, refusalLine}
 use Rattle.output.specs.Output.{answerOutput, givenSystem, givenTarget, inputRules, programLog, programOutput, programProduct, programWords}
 use Rattle.output.proofs.Calling.{size-most}
-use Rattle.former.proofs.Calls.{member-moved, memberWith}
-use Rattle.former.proofs.Order.{Moved, formerInputRules, formerSystemRules, input-order}
+use Rattle.former.proofs.Calls.{member-same-unless, memberWith}
+use Rattle.former.proofs.Order.{SameUnless, formerInputRules, formerSystemRules, input-same-unless}
 
 -- the lines of what member gives, for an input
 abbrev pub linesOf : List ℕ → Reduction × List ℕ × List ℕ × List ℕ → List ℕ
@@ -40,17 +40,17 @@ member-same : (input : List ℕ) → inputRules (length input) ≡ Fine
     → linesOf input (memberWith (systemRules (givenSystem input)) (givenSystem input) (givenTarget input) programWords programLog programProduct)
     ≡ linesOf input (memberWith (formerSystemRules (givenSystem input)) (givenSystem input) (givenTarget input) programWords programLog programProduct)
 member-same input passed =
-    let member = member-moved (givenSystem input) (givenTarget input) programWords programLog programProduct in
+    let member = member-same-unless (givenSystem input) (givenTarget input) programWords programLog programProduct in
     ap (linesOf input) (sym (member .asItIs)
     ∙ member .asItWas .elsewhere
     (λ long. absurd (omega (arith, long .0, size-most (length input) passed, length-take (length input - 64) input))))
 
 -- the output is the former one unless the input is longer than 1,088 bytes and uneven, and there it is the line of refusal 2
-pub program-moved : (input : List ℕ)
-    → Moved 1088 (length input) (programOutput input)
+pub program-same-unless : (input : List ℕ)
+    → SameUnless 1088 (length input) (programOutput input)
     (outputWith (formerInputRules (length input)) (formerSystemRules (givenSystem input)) input) (refusalLine (record { number = 2; place = 0 }))
-program-moved input =
-    let order = input-order (length input) in
+program-same-unless input =
+    let order = input-same-unless (length input) in
     record {
       elsewhere = λ h.
           output-as-it-is input ∙ lines-same (inputRules (length input)) (member-same input)

@@ -1,1 +1,1 @@
-// The former order of refusals 1 and 2, and what alone it answered otherwise. It holds no code of its own.
+// The former order of refusals 1 and 2, and laws that say which answers differ from it. It holds no code of its own.

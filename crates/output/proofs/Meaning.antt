@@ -32,11 +32,12 @@ use Rattle.printing.specs.Printing.{Prints}
 use Rattle.printing.specs.declared.answers.Printed.{Printed}
 use Rattle.output.proofs.Calling.{refused-from, size-most}
 
--- a length over 1,088 is refused with 2, by what its count tells
+-- a length over 1,088 is refused with 2
 long-refused : (n : ℕ) → 1088 < n → inputRules n ≡ refusal 2 0
 unfolding inputRules
 long-refused n h = rw (ne-eqb n 0 (omega arith), lt-leb n 1088 h) refl
 
+-- so a count tells what its length is refused with
 rules-same : (n size : ℕ) → CountOf n size → inputRules size ≡ inputRules n
 rules-same n size (inl e) = ap inputRules e
 rules-same n size (inr e) = long-refused size (e .0) ∙ sym (long-refused n (e .1))

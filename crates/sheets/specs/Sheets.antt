@@ -1,5 +1,5 @@
--- The worked sheets of docs/REQUIREMENTS.md that have a label, what the program prints for two of them and for two refused inputs, as one list,
--- and what each says over the definitions.
+-- The worked sheets of docs/REQUIREMENTS.md that have a label, what the program prints for two of them, for no input and for a byte that
+-- is neither letter nor full stop, as one list, and what each says over the definitions.
 use Prim.Native.Nat.{ℕ, _*_}
 use Prim.Native.String.{String}
 use mathlib.Core.Path.{_≡_}

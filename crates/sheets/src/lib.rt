@@ -1,1 +1,1 @@
-// The worked sheets marked P, as one proved list. It holds no code of its own.
+// The worked sheets that have a label, as one proved list. It holds no code of its own.

@@ -1,4 +1,4 @@
--- Why a system is refused: refusals 1 to 5 over its records, and 10 for the room of an output.
+-- Why a system is refused: refusals 1 to 5 over its records, of which 2 is tested first, and 10 for the room of an output.
 use Prim.Native.Nat.{_%_, _*_, ℕ}
 use mathlib.Core.List.{List}
 use lib.Dec.{eqb, leb}
@@ -11,8 +11,8 @@ use Rattle.slots.specs.Systems.{recordAt, slots}
 abbrev pub slotRules : List ℕ → ℕ → Checked
 slotRules s k = recordRules (recordAt s k) (k * 64)
 
--- 2. "The system has more than 1,024 bytes". 1. "The system's length is not a multiple of 64." Then "Rules 3 to 5 are tried record by
--- record".
+-- 2. "The system has more than 1,024 bytes, those of 16 records." Then 1. "The system's length is not a multiple of 64." Then "Rules 3 to 5
+-- are tried record by record".
 unfoldable pub systemRules : List ℕ → Checked
 systemRules s = must (leb (length s) 1024) 2 0 andThen must (eqb (length s % 64) 0) 1 0 andThen eachBelow (slotRules s) (slots s)
 

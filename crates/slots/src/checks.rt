@@ -13,13 +13,13 @@ use records::refusals::SYSTEM_UNEVEN;
 use records::refusals::WORDS_BUFFER_SHORT;
 
 // The bytes of 16 records, the most that a system has.
-const LONGEST: usize = 1024;
+const LONGEST_SYSTEM: usize = 1024;
 
 // Refusals 2, 1 and 3 to 5.
 pub fn check_system(system: &[u8]) -> Checked
     ensures { λ r. ⌜ r ≡ systemRules (now (system .entry)) ⌝ }
 {
-    let short = check_that(system.len() <= LONGEST, SYSTEM_TOO_LONG, 0);
+    let short = check_that(system.len() <= LONGEST_SYSTEM, SYSTEM_TOO_LONG, 0);
     let Checked::Fine = short else {
         return short;
     };

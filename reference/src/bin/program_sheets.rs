@@ -6,8 +6,8 @@ use std::{env, fs, io, process};
 use subgroups_reference::graph::traces;
 use subgroups_reference::program::program;
 use subgroups_reference::random::{Kind, Random};
-use subgroups_reference::records::{freely_reduced, record, system, MOST_RECORDS, RECORD};
-use subgroups_reference::sheets::{Target, SHEETS};
+use subgroups_reference::records::{freely_reduced, record, system, MOST_RECORDS};
+use subgroups_reference::sheets::{GivenTo, Target, LENGTH_SHEETS, SHEETS};
 use subgroups_reference::words::{Word, LONGEST};
 
 /// A case's name and its input.
@@ -23,12 +23,19 @@ fn texts(name: &str, given: &[&str], target: &str) -> Case {
     (name.to_string(), input)
 }
 
-/// The worked sheets that have a target.
+/// The worked sheets that have a target, and those on the program's lengths with any bytes.
 fn worked_sheets() -> Vec<Case> {
+    let mut random = Random::new(171);
     let mut cases = Vec::new();
     for sheet in &SHEETS {
         if let Target::Member(target, _) | Target::NotMember(target) = sheet.target {
             cases.push(texts(&sheet.name.to_lowercase(), sheet.given, target));
+        }
+    }
+    for sheet in &LENGTH_SHEETS {
+        if sheet.given_to == GivenTo::Program {
+            let input = (0..sheet.length).map(|_| random.byte()).collect();
+            cases.push((sheet.name.to_lowercase(), input));
         }
     }
     cases
@@ -56,33 +63,26 @@ fn examples() -> Vec<Case> {
     ]
 }
 
+/// The name of a case by the length of its input.
+fn named_by_length(length: usize) -> String {
+    match length {
+        0 => "empty".to_string(),
+        1 => "1_byte".to_string(),
+        _ => format!("{length}_bytes"),
+    }
+}
+
 /// Inputs of chosen lengths, all of whose whole records are sound.
 fn lengths() -> Vec<Case> {
-    let named = [
-        ("empty", 0),
-        ("1_byte", 1),
-        ("63_bytes", 63),
-        ("64_bytes", 64),
-        ("65_bytes", 65),
-        ("1087_bytes", 1087),
-        ("1088_bytes", 1088),
-        ("1089_bytes", 1089),
-        ("1151_bytes", 1151),
-        ("1152_bytes", 1152),
-        ("1153_bytes", 1153),
-        ("1216_bytes", 1216),
-        ("4095_bytes", 4095),
-        ("4097_bytes", 4097),
-        ("8192_bytes", 8192),
-        ("65536_bytes", 65_536),
-        ("65537_bytes", 65_537),
-        ("200000_bytes", 200_000),
-        ("200001_bytes", 200_001),
+    let lengths = [
+        0, 1, 63, 64, 65, 1023, 1024, 1025, 1087, 1088, 1089, 1151, 1152, 1153, 1216, 1500, 1600,
+        2175, 2176, 2177, 2300, 4095, 4097, 4160, 8192, 65_536, 65_537, 65_600, 66_623, 66_624,
+        66_625, 200_000, 200_001,
     ];
     let one_record = system(&["ab"]);
     let input = |length| one_record.iter().copied().cycle().take(length).collect();
-    named
-        .map(|(name, length)| (name.to_string(), input(length)))
+    lengths
+        .map(|length| (named_by_length(length), input(length)))
         .to_vec()
 }
 
@@ -118,9 +118,19 @@ fn broken() -> Vec<Case> {
     }
     let lone_target = [vec![b'a'; LONGEST], vec![b'a']].concat();
     cases.push(("broken_lone_target".to_string(), lone_target));
-    let zeros = vec![0; RECORD * (MOST_RECORDS + 2)];
-    cases.push(("broken_and_18_records".to_string(), zeros.clone()));
-    cases.push(("broken_and_uneven".to_string(), zeros[1..].to_vec()));
+    cases
+}
+
+/// Inputs of chosen lengths in which every byte is zero.
+fn zeros() -> Vec<Case> {
+    let mut cases = vec![
+        ("broken_and_18_records".to_string(), vec![0; 1152]),
+        ("broken_and_uneven".to_string(), vec![0; 1151]),
+    ];
+    for length in [63, 1023, 1025, 1087, 1088, 1089, 1500, 1600, 66_623] {
+        let name = format!("broken_and_{}", named_by_length(length));
+        cases.push((name, vec![0; length]));
+    }
     cases
 }
 
@@ -196,6 +206,7 @@ fn main() -> io::Result<()> {
         examples(),
         lengths(),
         broken(),
+        zeros(),
         random_cases(),
     ]
     .concat();

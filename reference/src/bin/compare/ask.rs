@@ -50,12 +50,6 @@ fn call_letters(calls: &mut Ask, system: &[u8], letters: &[u8]) {
     calls.call([system, &record(letters)], [RECORD]);
 }
 
-/// A system of this many records, each of which is a letter of its own.
-fn letters_of_their_own(records: usize) -> Vec<u8> {
-    let letters = (b'a'..=b'z').take(records);
-    letters.flat_map(|letter| record([letter])).collect()
-}
-
 /// The worked sheets on ask as they stand and with other room; the other sheets, given and reduced,
 /// with their targets and some others.
 fn sheets(calls: &mut Ask) {
@@ -80,16 +74,11 @@ fn sheets(calls: &mut Ask) {
 
 /// Systems of every length, reduced or not as far as they go, with sound and with refused targets.
 fn system_lengths(calls: &mut Ask) {
-    let mut call = |system: &[u8]| {
+    calls.walk_lengths(|calls, system| {
         call_letters(calls, system, b"aCa");
         calls.call([system, &record("aa")], [RECORD - 1]);
         calls.call([system, b"aa"], [0]);
-    };
-    for_each_length(&mut call);
-    let reduced = letters_of_their_own(19);
-    for length in 0..=1200 {
-        call(&reduced[..length]);
-    }
+    });
 }
 
 /// Systems with one byte changed and with two, which break rules 3 to 5 or leave a system reduced or not.

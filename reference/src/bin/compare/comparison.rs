@@ -1,10 +1,12 @@
 //! The comparison of one entry: the buffers that are lent again and again, the two calls, the count
 //! of those that agreed, and the report of the first that did not, which ends the program.
 
+use crate::by_length::{check_by_length, demanded, number_by_length};
 use crate::entries::Entry;
-use crate::inputs::{rooms, LONG_LENGTHS};
+use crate::inputs::{for_each_length, rooms, EVERY_LENGTH, LONG_LENGTHS};
 use crate::lent::{LentAnswer, Pair};
 use std::array::from_fn;
+use std::collections::BTreeSet;
 use std::process::exit;
 use subgroups_reference::answers::{Answer, REFUSED};
 use subgroups_reference::records::RECORD;
@@ -41,7 +43,8 @@ impl Seen {
 pub type Check<const INPUTS: usize, const BUFFERS: usize> =
     fn([&[u8]; INPUTS], [&[u8]; BUFFERS], Answer) -> Result<(), &'static str>;
 
-/// An entry with its buffers, the answers of the last call, and what was seen so far.
+/// An entry with its buffers, of which the first input is the system, the answers of the last call,
+/// and what was seen so far.
 pub struct Comparison<const INPUTS: usize, const BUFFERS: usize> {
     name: &'static str,
     entry: Entry<INPUTS, BUFFERS>,
@@ -142,6 +145,27 @@ impl<const INPUTS: usize, const BUFFERS: usize> Comparison<INPUTS, BUFFERS> {
         }
     }
 
+    /// Makes these calls with systems of every length and says how many agreed, after a look that
+    /// just the lengths that demand no refusal had calls that were not refused.
+    pub fn walk_lengths(&mut self, mut calls_with: impl FnMut(&mut Self, &[u8])) {
+        let calls_before = self.seen.calls;
+        let mut passed = BTreeSet::new();
+        for_each_length(|system| {
+            let passed_before = self.seen.not_refused();
+            calls_with(self, system);
+            if self.seen.not_refused() > passed_before {
+                passed.insert(system.len());
+            }
+        });
+        let name = self.name;
+        let expected = (0..=EVERY_LENGTH).filter(|&length| number_by_length(length).is_none());
+        assert!(passed.into_iter().eq(expected), "{name} and lengths");
+        let calls = self.seen.calls - calls_before;
+        println!(
+            "{name}: {calls} calls with every length of the system to {EVERY_LENGTH} bytes agree"
+        );
+    }
+
     /// The answer to the last call.
     pub fn answer(&self) -> Answer {
         self.rust
@@ -152,12 +176,20 @@ impl<const INPUTS: usize, const BUFFERS: usize> Comparison<INPUTS, BUFFERS> {
         self.buffers[buffer].rust.part()
     }
 
+    /// The length of the system that was lent to the last call.
+    fn system_length(&self) -> usize {
+        self.inputs[0].rust.part().len()
+    }
+
     /// Counts the last call if both sides agree, and ends the program if they do not.
     fn check(&mut self) {
         let mut pairs = self.inputs.iter().chain(&self.buffers);
         let same_bytes = pairs.all(|pair| pair.difference().is_none());
         if !same_bytes || !self.proved.holds_just(self.rust) {
             self.end_with("the two sides disagree");
+        }
+        if let Err(fault) = check_by_length(self.system_length(), self.rust) {
+            self.end_with(fault);
         }
         let check = match self.rust.verdict {
             REFUSED => self.refusal_check,
@@ -221,6 +253,11 @@ impl<const INPUTS: usize, const BUFFERS: usize> Comparison<INPUTS, BUFFERS> {
         println!("verdict, number, place, moves, rank, independent, reduced");
         println!("  proved library: {:?}", self.proved.numbers);
         println!("  Rust version:   {:?}", self.rust.numbers());
+        let length = self.system_length();
+        println!(
+            "by its length of {length} bytes alone the system is {}",
+            demanded(length)
+        );
         if !self.proved.alone_written() {
             println!("the proved library wrote beside its answer");
         }

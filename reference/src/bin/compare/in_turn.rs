@@ -8,10 +8,11 @@ use crate::lent::{Lent, LentAnswer};
 use subgroups_reference::answers::{Answer, DONE};
 use subgroups_reference::refusals::*;
 
-/// The refusals of member that reduce gives with the same system, words buffer and log.
+/// The refusals of member that reduce gives with the same system, words buffer and log, in the
+/// order in which they are tested.
 pub const REFUSALS_OF_REDUCE: [u64; 7] = [
+    SYSTEM_TOO_LONG,
     SYSTEM_UNEVEN,
-    TOO_MANY_RECORDS,
     NO_LINE_FEED,
     NEITHER_LETTER_NOR_STOP,
     LETTER_AFTER_STOP,
@@ -19,10 +20,11 @@ pub const REFUSALS_OF_REDUCE: [u64; 7] = [
     LOG_BUFFER_SHORT,
 ];
 
-/// The refusals of member that ask gives with the same system, target and product buffer.
+/// The refusals of member that ask gives with the same system, target and product buffer, in the
+/// order in which they are tested.
 pub const REFUSALS_OF_ASK: [u64; 6] = [
+    SYSTEM_TOO_LONG,
     SYSTEM_UNEVEN,
-    TOO_MANY_RECORDS,
     NO_LINE_FEED,
     NEITHER_LETTER_NOR_STOP,
     LETTER_AFTER_STOP,

@@ -2,7 +2,9 @@
 //! damaged records, systems with two faults at once, and random systems and targets of many kinds.
 
 use subgroups_reference::random::{Kind, Random};
-use subgroups_reference::records::{freely_reduced, record, system, MOST_RECORDS, RECORD};
+use subgroups_reference::records::{
+    freely_reduced, record, system, LONGEST_SYSTEM, MOST_RECORDS, RECORD,
+};
 use subgroups_reference::sheets::{ASK_SHEETS, SHEETS, TIDY};
 use subgroups_reference::small;
 use subgroups_reference::words::{Word, LONGEST};
@@ -15,6 +17,9 @@ pub const LENGTHS: [(usize, usize); 6] = [(0, 3), (0, 8), (4, 16), (0, 63), (55,
 
 /// Lengths far beyond every limit, which end in many zeros as binary numbers.
 pub const LONG_LENGTHS: [usize; 3] = [1 << 8, 1 << 16, 1 << 20];
+
+/// The length in bytes up to which systems of every length are lent.
+pub const EVERY_LENGTH: usize = 2300;
 
 /// Bytes at and around the ends of what a record may hold.
 pub const TELLING_BYTES: [u8; 22] = [
@@ -78,15 +83,38 @@ pub fn for_each_changed_byte(
     }
 }
 
-/// Lends systems of every length from 0 to 1200, well formed as far as they go, and of any bytes.
+/// A system of this many records, each of which is a letter of its own as long as there are any.
+pub fn letters_of_their_own(records: usize) -> Vec<u8> {
+    let letters = (b'a'..=b'z').cycle().take(records);
+    letters.flat_map(|letter| record([letter])).collect()
+}
+
+/// Systems from which those of every length are cut: two well-formed ones, of which the second is
+/// reduced, then the first of them with its first record broken by rule 3, by rule 4 and by rule 5.
+fn systems_to_cut() -> Vec<Vec<u8>> {
+    let records = EVERY_LENGTH / RECORD + 1;
+    let well_formed = record("abBc").repeat(records);
+    let mut systems = vec![well_formed.clone(), letters_of_their_own(records)];
+    for (place, byte) in [(RECORD - 1, b'.'), (7, b'?'), (9, b'x')] {
+        let mut broken = well_formed.clone();
+        broken[place] = byte;
+        systems.push(broken);
+    }
+    systems
+}
+
+/// Lends systems of every length from 0 to 2,300 bytes and of some far longer ones: well formed as
+/// far as they go, broken in the first record, and of any bytes.
 pub fn for_each_length(mut lend: impl FnMut(&[u8])) {
     let mut random = Random::new(103);
-    let well_formed = system(&["abBc"; 19]);
-    for length in 0..=1200 {
-        lend(&well_formed[..length]);
+    let systems = systems_to_cut();
+    for length in 0..=EVERY_LENGTH {
+        for system in &systems {
+            lend(&system[..length]);
+        }
         lend(&any_bytes(&mut random, length));
     }
-    let long = well_formed[..RECORD].repeat(LONG_LENGTHS[2] / RECORD + 2);
+    let long = record("abBc").repeat(LONG_LENGTHS[2] / RECORD + 2);
     for length in LONG_LENGTHS {
         for more in [0, 1, RECORD] {
             lend(&long[..length + more]);
@@ -96,7 +124,7 @@ pub fn for_each_length(mut lend: impl FnMut(&[u8])) {
 
 /// Lends systems with one byte changed: rules 3, 4 and 5 at each place of each record, and rule 2.
 pub fn for_each_malformed_system(mut lend: impl FnMut(&[u8])) {
-    let whole = RECORD * MOST_RECORDS;
+    let whole = LONGEST_SYSTEM;
     let mixed = mixed_system();
     let full = Random::new(101).system(Kind::Uniform, 5, MOST_RECORDS, LONGEST, LONGEST);
     let blank = system(&[""; MOST_RECORDS]);
@@ -107,8 +135,10 @@ pub fn for_each_malformed_system(mut lend: impl FnMut(&[u8])) {
         let last = length - RECORD..length;
         for_each_changed_byte(&mixed[..length], last, &TELLING_BYTES, &mut lend);
     }
-    let too_many = [&mixed[..], &mixed[..RECORD]].concat();
-    for_each_changed_byte(&too_many, 0..whole + RECORD, b"\0a", &mut lend);
+    let too_long = [&mixed[..], &mixed[..RECORD]].concat();
+    for length in [whole + 1, whole + RECORD] {
+        for_each_changed_byte(&too_long[..length], 0..length, b"\0a", &mut lend);
+    }
 }
 
 /// Lends a system with two faults in one record: the order of rules 3, 4 and 5, and the first byte.
@@ -251,9 +281,10 @@ pub fn broken_systems(sound: Vec<u8>) -> Vec<Vec<u8>> {
     }
     for base in systems.clone() {
         systems.push(base[..base.len() - 1].to_vec());
-        let too_many = base.repeat(5);
-        systems.push(too_many[..RECORD * (MOST_RECORDS + 1)].to_vec());
-        systems.push(too_many[..RECORD * (MOST_RECORDS + 1) + 1].to_vec());
+        let too_long = base.repeat(5);
+        for more in [1, RECORD, RECORD + 1] {
+            systems.push(too_long[..LONGEST_SYSTEM + more].to_vec());
+        }
     }
     systems
 }

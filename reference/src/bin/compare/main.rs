@@ -2,6 +2,7 @@
 //! The inputs are the same in every run; the last line says how many calls agreed.
 
 mod ask;
+mod by_length;
 mod comparison;
 mod entries;
 mod in_turn;

@@ -32,7 +32,7 @@ pub fn compare() -> u64 {
     });
     calls.refusal_check = Some(check_refusal);
     sheets(calls);
-    for_each_length(|system| call_letters(calls, system, b"aa", 100));
+    system_lengths(calls);
     for_each_malformed_system(|system| call_letters(calls, system, b"abA", 1000));
     for_each_two_faults(|system| call_letters(calls, system, b"c", 40));
     refusals_in_order(calls);
@@ -93,6 +93,15 @@ fn sheets(calls: &mut Member) {
             calls.call_with_all_rooms([&given, &record(text)], lengths_needed(&given));
         }
     }
+}
+
+/// Systems of every length, with sound and with refused targets and with short buffers.
+fn system_lengths(calls: &mut Member) {
+    calls.walk_lengths(|calls, system| {
+        call_letters(calls, system, b"aa", 100);
+        calls.call([system, &record("aa")], [system.len() / 2, 0, RECORD - 1]);
+        calls.call([system, b"aa"], [0, 0, 0]);
+    });
 }
 
 /// Faults of the system, the target and the three buffers, two and more at once.

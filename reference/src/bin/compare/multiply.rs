@@ -22,11 +22,7 @@ pub fn compare() -> u64 {
             calls.call_with_all_rooms([&system, &record(product)], [RECORD]);
         }
     }
-    for_each_length(|system| {
-        call_text(calls, system, "");
-        call_text(calls, system, "aBa");
-        calls.call([system, b"aBa"], [RECORD - 1]);
-    });
+    system_lengths(calls);
     for_each_malformed_system(|system| call_text(calls, system, "aBc"));
     for_each_two_faults(|system| call_text(calls, system, "acB"));
     refusals_in_order(calls);
@@ -56,6 +52,17 @@ pub fn compare() -> u64 {
 /// Compares a call with a product given as text and just enough room.
 fn call_text(calls: &mut Multiply, system: &[u8], product: &str) {
     calls.call([system, &record(product)], [RECORD]);
+}
+
+/// Systems of every length, with sound and with refused products and with a short word buffer.
+fn system_lengths(calls: &mut Multiply) {
+    calls.walk_lengths(|calls, system| {
+        for product in ["", "aBa", "z"] {
+            call_text(calls, system, product);
+        }
+        calls.call([system, &record("a")], [RECORD - 1]);
+        calls.call([system, b"aBa"], [RECORD - 1]);
+    });
 }
 
 /// Faults of the system, the product, the word buffer and the result, two and more at once.

@@ -22,8 +22,9 @@ pub fn compare() -> u64 {
         call_with_all_logs(calls, &system);
         calls.call_with_all_rooms([&system], lengths_needed(&system));
     }
-    for_each_length(|system| {
+    calls.walk_lengths(|calls, system| {
         calls.call([system], [system.len(), 100]);
+        calls.call([system], [system.len(), 0]);
         calls.call([system], [system.len() / 2, 0]);
     });
     for_each_malformed_system(|system| calls.call([system], [system.len(), 1000]));

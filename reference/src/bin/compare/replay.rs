@@ -31,11 +31,7 @@ pub fn compare() -> u64 {
         call_with_all_rooms(calls, &given, &reduction.log);
         call_with_all_rooms(calls, &reduction.words, &reduction.log);
     }
-    for_each_length(|system| {
-        for log in [&b""[..], b"a1b\n", b"a1b"] {
-            call_both_ways(calls, system, log);
-        }
-    });
+    system_lengths(calls);
     let mut random = Random::new(401);
     for_each_malformed_system(|system| {
         let backward = FLAGS[random.below(FLAGS.len())];
@@ -71,6 +67,19 @@ fn call_both_ways(calls: &mut Replay, system: &[u8], log: &[u8]) {
     for backward in [FORWARD, BACKWARD] {
         calls.call([system, log, backward], [system.len()]);
     }
+}
+
+/// Systems of every length, with sound and with refused logs, with room for all words and for none.
+fn system_lengths(calls: &mut Replay) {
+    calls.walk_lengths(|calls, system| {
+        for log in [&b""[..], b"a1b\n", b"a1b", b"a1a\n"] {
+            call_both_ways(calls, system, log);
+        }
+        for backward in [FORWARD, BACKWARD] {
+            calls.call([system, b"", backward], [0]);
+            calls.call([system, b"a1b", backward], [0]);
+        }
+    });
 }
 
 /// Compares calls with several bytes for the direction and words buffers around the length needed.

@@ -21,7 +21,7 @@ pub fn compare() -> u64 {
         calls.call([&system], []);
         calls.call([&reduction(&system).words], []);
     }
-    for_each_length(|system| calls.call([system], []));
+    calls.walk_lengths(|calls, system| calls.call([system], []));
     for_each_malformed_system(|system| calls.call([system], []));
     for_each_two_faults(|system| calls.call([system], []));
     for system in sound_and_refused_systems() {

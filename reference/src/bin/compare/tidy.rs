@@ -6,8 +6,9 @@ use crate::entries::TIDY;
 use crate::inputs::*;
 use subgroups_reference::answers::DONE;
 use subgroups_reference::random::Random;
-use subgroups_reference::records::{MOST_RECORDS, RECORD};
+use subgroups_reference::records::LONGEST_SYSTEM;
 use subgroups_reference::refusals::WORDS_BUFFER_SHORT;
+use subgroups_reference::sheets::{GivenTo, LengthSheet, LENGTH_SHEETS};
 
 /// The comparison of tidy: the system; the words buffer.
 type Tidy = Comparison<1, 1>;
@@ -18,7 +19,8 @@ pub fn compare() -> u64 {
     for system in sheet_systems() {
         calls.call_with_all_rooms([&system], [system.len()]);
     }
-    for_each_length(|system| calls.call_with_all_rooms([system], [system.len()]));
+    sheets_on_lengths(calls);
+    calls.walk_lengths(|calls, system| calls.call_with_all_rooms([system], [system.len()]));
     for_each_number_of_records(|system| {
         calls.call_with_every_length([system], [system.len()], 0);
     });
@@ -32,10 +34,22 @@ pub fn compare() -> u64 {
     calls.end(&[DONE], &[WORDS_BUFFER_SHORT])
 }
 
+/// The worked sheets on lengths, with sound records and with any bytes.
+fn sheets_on_lengths(calls: &mut Tidy) {
+    let mut random = Random::new(204);
+    let records = mixed_system().repeat(2);
+    let for_tidy = |sheet: &&LengthSheet| sheet.given_to == GivenTo::Tidy;
+    for &LengthSheet { length, .. } in LENGTH_SHEETS.iter().filter(for_tidy) {
+        for system in [&records[..length], &any_bytes(&mut random, length)] {
+            calls.call_with_all_rooms([system], [length]);
+        }
+    }
+}
+
 /// Every byte of a system changed: rules 3, 4 and 5 at each place of each record.
 fn malformed_records(calls: &mut Tidy) {
     for_each_malformed_system(|system| calls.call([system], [system.len() + 5]));
-    let whole = RECORD * MOST_RECORDS;
+    let whole = LONGEST_SYSTEM;
     let mixed = mixed_system();
     for_each_changed_byte(&mixed, 0..whole, &every_byte(), |system| {
         calls.call([system], [whole]);
