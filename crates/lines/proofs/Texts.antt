@@ -1,20 +1,19 @@
 -- Texts put one after the other into a buffer, and numbers in decimal digits.
-use Prim.Native.Nat.{_+_, _-_, _*_, _/_, _<_, _^_, _≤_, suc, zero, ℕ}
+use Prim.Native.Nat.{_*_, _+_, _-_, _/_, _<_, _^_, _≤_, suc, zero, ℕ}
 use mathlib.Core.Bool.{Bool}
-use mathlib.Core.List.{List, _++_, append-assoc}
+use mathlib.Core.List.{List, _++_}
 use mathlib.Core.Logic.{inl, inr}
 use mathlib.Core.Path.{_∙_, _≡_, ap, refl, sym}
 use native.Mathlib.Nat.{one-le-pow, pow-le-pow-right, pow-suc}
 use native.Mathlib.Omega.{arith}
 use lib.Dec.{leb}
-use lib.ListN.{drop, length, length-append, length-take, take}
-use lib.Seq.{drop-at, drop-drop, length-take-le, take-at}
+use lib.ListN.{length, length-append, length-take, take}
 use borrow.Author.Tests.{le-ltb, leb-false, leb-true, lt-ltb}
 use mir.Syntax.{w64}
 use mir.Val.{Fits}
 use Rattle.io.specs.Digits.{Fewest, digits}
 use Rattle.words.specs.Buffers.{written, writtenAt}
-use Rattle.words.proofs.Buffers.{front-part}
+use Rattle.words.proofs.Buffers.{front-part, written-next}
 use Rattle.records.specs.declared.answers.Checked.the-variants.{Failed}
 use Rattle.records.specs.declared.answers.Refusal.{Refusal}
 use Rattle.records.specs.declared.answers.Verdict.{Verdict}
@@ -24,35 +23,10 @@ use Rattle.reduction.specs.declared.answers.Reduction.{Reduction}
 use Rattle.lines.specs.Lines.{firstLine, isMember, lineFeed, named, refusalIn}
 use Rattle.lines.specs.Text.{decimal, digitsWithin, yesOrNo}
 
--- bytes written after others
-module _ (a b out : List ℕ) (at : ℕ) (inside : at ≤ length out) where
-  written-split : writtenAt at a out ≡ (take at out ++ a) ++ drop (length a) (drop at out)
-  written-split = sym (append-assoc (take at out) a _)
-
-  front-length : length (take at out ++ a) ≡ at + length a
-  front-length = rw (length-append (take at out) a, length-take-le at out inside) refl
-
-  written-after : writtenAt (at + length a) b (writtenAt at a out) ≡ writtenAt at (a ++ b) out
-  written-after =
-      rw (
-        written-split,
-        take-at (take at out ++ a) (drop (length a) (drop at out)) (at + length a) front-length,
-        drop-at (take at out ++ a) (drop (length a) (drop at out)) (at + length a) front-length,
-        drop-drop (length b) (length a) (drop at out),
-        length-append a b,
-        append-assoc,
-        append-assoc,
-      )
-      refl
-
-  written-next : {end : ℕ} {out₁ out₂ : List ℕ} → out₁ ≡ writtenAt at a out → end ≡ at + length a → out₂ ≡ writtenAt end b out₁
-      → out₂ ≡ writtenAt at (a ++ b) out
-  written-next first e second = rw (second, e, first) written-after
-
--- a name and a value, with room to spare
-pub pair-written : (name value out : List ℕ) (at spare : ℕ) {end : ℕ} {out₁ out₂ : List ℕ} → at + length name + spare ≤ length out
-    → out₁ ≡ writtenAt at name out → end ≡ at + length name → out₂ ≡ writtenAt end value out₁ → out₂ ≡ writtenAt at (name ++ value) out
-pair-written name value out at spare room = written-next name value out at (omega arith)
+-- a name and a value
+pub pair-written : (name value out : List ℕ) (at : ℕ) {end : ℕ} {out₁ out₂ : List ℕ} → out₁ ≡ writtenAt at name out → end ≡ at + length name
+    → out₂ ≡ writtenAt end value out₁ → out₂ ≡ writtenAt at (name ++ value) out
+pair-written name value out at = written-next at name value (name ++ value) out refl
 
 -- three texts from the beginning on, four and five
 module _ (a b c out : List ℕ) {end₁ end₂ : ℕ} {out₁ out₂ out₃ : List ℕ} (first : out₁ ≡ writtenAt 0 a out) (e₁ : end₁ ≡ 0 + length a)
@@ -61,7 +35,7 @@ module _ (a b c out : List ℕ) {end₁ end₂ : ℕ} {out₁ out₂ out₃ : Li
   two-end = omega (arith, length-append a b)
 
   pub three-written : out₃ ≡ written (a ++ b ++ c) out
-  three-written = written-next (a ++ b) c out 0 (omega arith) (written-next a b out 0 (omega arith) first e₁ second) two-end third
+  three-written = written-next 0 (a ++ b) c (a ++ b ++ c) out refl (written-next 0 a b (a ++ b) out refl first e₁ second) two-end third
 
   module _ {end₃ : ℕ} (e₃ : end₃ ≡ end₂ + length c) where
     pub three-end : end₃ ≡ length (a ++ b ++ c)
@@ -71,7 +45,7 @@ module _ (a b c out : List ℕ) {end₁ end₂ : ℕ} {out₁ out₂ out₃ : Li
     three-place = omega (arith, three-end)
 
     pub four-written : (d : List ℕ) {out₄ : List ℕ} → out₄ ≡ writtenAt end₃ d out₃ → out₄ ≡ written (a ++ b ++ c ++ d) out
-    four-written d fourth = written-next (a ++ b ++ c) d out 0 (omega arith) three-written three-place fourth
+    four-written d fourth = written-next 0 (a ++ b ++ c) d (a ++ b ++ c ++ d) out refl three-written three-place fourth
 
     module _ (d e : List ℕ) {end₄ : ℕ} {out₄ out₅ : List ℕ} (fourth : out₄ ≡ writtenAt end₃ d out₃) (e₄ : end₄ ≡ end₃ + length d)
         (fifth : out₅ ≡ writtenAt end₄ e out₄) where
@@ -79,8 +53,7 @@ module _ (a b c out : List ℕ) {end₁ end₂ : ℕ} {out₁ out₂ out₃ : Li
       four-end = omega (arith, three-end, length-append (a ++ b ++ c) d)
 
       pub five-written : out₅ ≡ written (a ++ b ++ c ++ d ++ e) out
-      five-written =
-          written-next (a ++ b ++ c ++ d) e out 0 (omega arith) (four-written d fourth) four-end fifth
+      five-written = written-next 0 (a ++ b ++ c ++ d) e (a ++ b ++ c ++ d ++ e) out refl (four-written d fourth) four-end fifth
 
       pub five-end : {end₅ : ℕ} → end₅ ≡ end₄ + length e → end₅ ≡ length (a ++ b ++ c ++ d ++ e)
       five-end e₅ = omega (arith, four-end, length-append (a ++ b ++ c ++ d) e)

@@ -4,3 +4,4 @@ pub mod Chains
 pub mod Rules
 pub mod Targets
 pub mod RoundTrip
+pub mod ByNumber

@@ -28,6 +28,10 @@ refusalPlace Member = 0
 refusalPlace NotMember = 0
 refusalPlace (Refused f) = f .place
 
+-- a refusal with its number and place, as a verdict
+abbrev pub refusedWith : ℕ → ℕ → Verdict
+refusedWith n at = Refused (record { number = n; place = at })
+
 -- the answer of a call that gives its verdict alone, from what its tests found
 abbrev pub answerOf : Checked → Answer
 answerOf Fine = record { verdict = Done }

@@ -26,3 +26,9 @@ pub const WORD_TOO_LONG: u8 = 12;
 pub const LOG_BUFFER_SHORT: u8 = 13;
 
 pub const SYSTEM_NOT_REDUCED: u8 = 15;
+
+pub const TEXT_MALFORMED: u8 = 16;
+
+pub const NESTING_TOO_DEEP: u8 = 17;
+
+pub const EXPONENT_OUT_OF_RANGE: u8 = 18;

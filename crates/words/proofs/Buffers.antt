@@ -1,12 +1,12 @@
 -- Buffers that a loop reads or writes one byte at a time.
-use Prim.Native.Nat.{_+_, _-_, _<_, _≤_, suc, ℕ}
+use Prim.Native.Nat.{_+_, _-_, _<_, _≤_, suc, zero, ℕ}
 use mathlib.Core.List.{List, [], _++_, _∷_, append-assoc, append-nil}
 use mathlib.Core.Path.{_∙_, _≡_, ap, refl}
-use native.Mathlib.Nat.{le-antisymm}
+use native.Mathlib.Nat.{le-antisymm, suc-add, zero-add}
 use native.Mathlib.Numerals.{add-one}
 use native.Mathlib.Omega.{arith}
-use lib.ListN.{drop, getD, length, length-drop, length-set, length-take, set, take}
-use lib.Seq.{drop-cons, drop-length, length-take-le, set-at, take-all, take-at, take-length, take-suc}
+use lib.ListN.{drop, drop-of-length-le, getD, length, length-append, length-drop, length-set, length-take, set, take}
+use lib.Seq.{drop-append-seam, drop-cons, drop-drop, drop-length, drop-nil, length-take-le, set-at, set-split, take-all, take-append-seam, take-at, take-length, take-suc}
 use borrow.Rule.Slice.PartMut.{putMid}
 use Rattle.words.specs.Buffers.{written, writtenAt}
 
@@ -52,3 +52,19 @@ pub written-rest : (bytes buffer y : List ℕ) (at : ℕ) → y ≡ written byte
 written-rest bytes buffer y at e =
     let none : drop (length buffer - at) (drop at buffer) ≡ [] = rw (← length-drop at buffer) (drop-length (drop at buffer)) in
     rw (none, append-nil, e, rest-part buffer at) refl
+
+-- bytes written at a place: one, and some after others
+pub byte-written : (buffer : List ℕ) (at b : ℕ) → at < length buffer → set buffer at b ≡ writtenAt at (b ∷ []) buffer
+byte-written buffer at b h = rw (set-split buffer at b h, drop-drop 1 at buffer, add-one)
+
+written-after : (at : ℕ) (u v buffer : List ℕ) → writtenAt (at + length u) v (writtenAt at u buffer) ≡ writtenAt at (u ++ v) buffer
+written-after zero u v buffer =
+    rw (zero-add, take-append-seam, drop-append-seam, drop-drop (length v) (length u) buffer, length-append u v, append-assoc)
+written-after (suc n) u v [] =
+    let long : length u ≤ suc n + length u = omega arith in
+    simp (drop-nil, append-nil, take-all, drop-of-length-le)
+written-after (suc n) u v (x ∷ buffer) = rw suc-add (ap (_∷_ x) (written-after n u v buffer))
+
+pub written-next : (at : ℕ) (u v w buffer : List ℕ) {end : ℕ} {after after₁ : List ℕ} → u ++ v ≡ w → after ≡ writtenAt at u buffer
+    → end ≡ at + length u → after₁ ≡ writtenAt end v after → after₁ ≡ writtenAt at w buffer
+written-next at u v w buffer whole first e second = rw (second, e, first, ← whole) (written-after at u v buffer)
