@@ -1,0 +1,9 @@
+pub mod Trees
+pub mod TreeWords
+pub mod Limits
+pub mod Within
+pub mod Meaning
+pub mod Scan
+pub mod Parse
+pub mod Rules
+pub mod WordTexts
