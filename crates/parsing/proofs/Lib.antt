@@ -1,0 +1,4 @@
+-- Laws of the two readers.
+pub mod Exponents
+pub mod Readers
+pub mod Fitting

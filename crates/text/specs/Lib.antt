@@ -1,0 +1,4 @@
+pub mod Read
+pub mod Write
+pub mod Meaning
+pub mod ReadBack
