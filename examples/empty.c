@@ -11,6 +11,8 @@ static void print_answer(const char *call, const subgroups_answer *a) {
 
 int main(void) {
     uint8_t record[SUBGROUPS_RECORD], blank[SUBGROUPS_RECORD], out[SUBGROUPS_RECORD], product[SUBGROUPS_RECORD];
+    uint8_t text[SUBGROUPS_TEXT];
+    uint64_t length;
     subgroups_answer answer;
     put_record(record, "abB");
     put_record(blank, "");
@@ -46,5 +48,13 @@ int main(void) {
     print_answer("member, no target", &answer);
     subgroups_member(record, sizeof record, blank, sizeof blank, out, sizeof out, NULL, 0, NULL, 0, &answer);
     print_answer("member, no product", &answer);
+    subgroups_read_text(NULL, 0, out, sizeof out, &answer);
+    print_answer("read no text", &answer);
+    subgroups_read_text(record, 1, NULL, 0, &answer);
+    print_answer("read into nothing", &answer);
+    subgroups_write_text(NULL, 0, text, sizeof text, &length, &answer);
+    print_answer("write no record", &answer);
+    subgroups_write_text(record, sizeof record, NULL, 0, &length, &answer);
+    print_answer("write into nothing", &answer);
     return 0;
 }

@@ -40,6 +40,13 @@ static void expect_member(enum subgroups_refusal refusal, const char *name, size
     expect(refusal, name, &answer);
 }
 
+/* Reads a text. */
+static void expect_read(enum subgroups_refusal refusal, const char *name, const char *text) {
+    subgroups_answer answer;
+    subgroups_read_text((const uint8_t *)text, strlen(text), words, sizeof words, &answer);
+    expect(refusal, name, &answer);
+}
+
 int main(void) {
     static const char *const given[2] = {"ab", "b"};
     uint8_t longest[SUBGROUPS_RECORD];
@@ -79,5 +86,9 @@ int main(void) {
 
     subgroups_ask(system_of_two, 2 * SUBGROUPS_RECORD, target, sizeof target, product, sizeof product, &answer);
     expect(SUBGROUPS_SYSTEM_NOT_REDUCED, "system not reduced", &answer);
+
+    expect_read(SUBGROUPS_TEXT_MALFORMED, "text malformed", "(ab)^-c");
+    expect_read(SUBGROUPS_NESTING_TOO_DEEP, "nesting too deep", "(((((((([a,b]))))))))");
+    expect_read(SUBGROUPS_EXPONENT_OUT_OF_RANGE, "exponent out of range", "(ab)^64");
     return wrong;
 }

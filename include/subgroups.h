@@ -2,8 +2,9 @@
  *
  * A few words generate a subgroup of a free group. The calls below reduce such a system of words in Nielsen's sense, decide
  * whether a word lies in the subgroup and give the product that it is, follow a log of moves forward and backward, and
- * multiply a product out. Every call takes byte buffers of any length and content, and either does its work or refuses; its
- * answer and each byte that it leaves are proved for all of them. docs/REQUIREMENTS.md says in full what is promised.
+ * multiply a product out; two more read and write words as people write them, with powers and commutators. Every call takes
+ * byte buffers of any length and content, and either does its work or refuses; its answer and each byte that it leaves are
+ * proved for all of them. docs/REQUIREMENTS.md says in full what is promised.
  *
  *                rt staticlib subgroups_c
  *                gcc -Iinclude program.c target/staticlib/libsubgroups_c.a
@@ -32,17 +33,32 @@
  *            With w the word of the slot changed and v that of the other slot, form 1 makes it v w, form 2 the inverse of v,
  *            then w, form 3 w v, and form 4 w, then the inverse of v; the result is freely reduced.
  *
- * Buffers    words needs 64 bytes for each record of the system, product and word 64, log 4 for each move. A longer buffer
- *            does no harm: bytes after the last one written stay as they were. A refusal changes nothing but the answer,
- *            except that under SUBGROUPS_LOG_BUFFER_SHORT the log holds, as whole log records, the first moves that fit.
+ * Buffers    words needs 64 bytes for each record of the system, product and word 64, log 4 for each move, and the text of
+ *            write_text 256. A longer buffer does no harm: bytes after the last one written stay as they were. A refusal
+ *            changes nothing but the answer, and the length that write_text gives, except that under
+ *            SUBGROUPS_LOG_BUFFER_SHORT the log holds, as whole log records, the first moves that fit.
  *            How many moves a system takes is not known beforehand: 16 random words take some dozens, more than 1,000 have been
  *            seen, and no bound is promised. A caller that gets SUBGROUPS_LOG_BUFFER_SHORT lends a longer log and calls again.
- *            A buffer that is written (words, log, product, word, answer) must not overlap any other; buffers that are only
- *            read may. Where a length is 0 its pointer may be anything, NULL too; answer must not be NULL.
+ *            What is written (words, log, product, word, text, length, answer) must not overlap any other buffer; buffers
+ *            that are only read may. Where a buffer's length is 0 its pointer may be anything, NULL too; answer and length
+ *            must not be NULL.
  *
  * Targets    A service with many targets for one system calls reduce once, keeps the reduced words (64 bytes for each record of
  *            the system), and calls ask with those bytes for each target. Member does both for one target, and gives what the
  *            two in turn give.
+ *
+ * Texts      A text is a word as people write it, at most 256 bytes without an end mark: letters, a power such as (ab)^-3, and
+ *            [u,v], which is the inverse of u, the inverse of v, u, v. A text is a product of any number of factors, none
+ *            included; a factor is a letter, a group ( ) of a product, or a bracket [ , ] of two, with at most one power after
+ *            it. There are no spaces. Groups and brackets nest at most 8 deep, both kinds counted together; exponents run from
+ *            -63 to 63, in 1 or 2 digits and without a plus sign.
+ *
+ *                (ab)^-3       BABABA
+ *                [a,b]         ABab
+ *                [a,bc]^2c     ACBabcACBabcc
+ *
+ *            read_text turns a text into a record, write_text a record into a text, in which a run of equal letters is a
+ *            power: aaBBB is a^2b^-3.
  *
  * Threads    The library keeps nothing between calls and allocates nothing. Calls may run side by side in any number of
  *            threads, as long as no call writes a buffer that another one uses.
@@ -80,7 +96,8 @@ enum {
     SUBGROUPS_RECORD = 64,  /* the bytes of a record */
     SUBGROUPS_LETTERS = 63, /* the most letters of a word */
     SUBGROUPS_SLOTS = 16,   /* the most records of a system */
-    SUBGROUPS_MOVE = 4      /* the bytes of a log record, which is one move */
+    SUBGROUPS_MOVE = 4,     /* the bytes of a log record, which is one move */
+    SUBGROUPS_TEXT = 256    /* the most bytes of a text to read, and the room that write_text asks for */
 };
 
 /* What a call says: answer.verdict. */
@@ -101,20 +118,26 @@ enum subgroups_refusal {
     SUBGROUPS_NEITHER_LETTER_NOR_STOP = 4,     /* a byte before it is neither letter nor full stop; place: the first such
                                                   byte in the system */
     SUBGROUPS_LETTER_AFTER_STOP = 5,           /* a letter stands after a full stop; place: the first such in the system */
-    SUBGROUPS_TARGET_OR_PRODUCT_MALFORMED = 6, /* target or product is not 64 bytes long or breaks 3, 4 or 5; place: the
-                                                  first failing byte in it, 0 where its length is wrong */
+    SUBGROUPS_TARGET_OR_PRODUCT_MALFORMED = 6, /* target, product, or the word to write as text, is not 64 bytes long or breaks
+                                                  3, 4 or 5; place: the first failing byte in it, 0 where its length is wrong */
     SUBGROUPS_LOG_UNEVEN = 7,                  /* the length of the log to replay is not a multiple of 4 */
     SUBGROUPS_LOG_RECORD_MALFORMED = 8,        /* a log record is not slot letter, digit 1 to 4, slot letter, line feed, with
                                                   two different slots that the system has; place: the first byte of the first
                                                   such in the log */
     SUBGROUPS_SLOT_MISSING = 9,                /* the product names a slot that the system does not have; place: the first
                                                   such letter in the product */
-    SUBGROUPS_WORDS_BUFFER_SHORT = 10,         /* words, or word, has no room for the output */
+    SUBGROUPS_WORDS_BUFFER_SHORT = 10,         /* words, or word, has no room for the output; text has less than 256 bytes */
     SUBGROUPS_PRODUCT_BUFFER_SHORT = 11,       /* the product buffer is shorter than 64 bytes */
     SUBGROUPS_WORD_TOO_LONG = 12,              /* a move of replay, or multiply, comes to more than 63 letters; place: in
-                                                  replay the move's number in the log, counted from 1 */
+                                                  replay the move's number in the log, counted from 1. In a text a factor,
+                                                  with or without its power, or the first factors of a product do */
     SUBGROUPS_LOG_BUFFER_SHORT = 13,           /* the moves do not fit the log */
-    SUBGROUPS_SYSTEM_NOT_REDUCED = 15          /* the system is not reduced after free reduction */
+    SUBGROUPS_SYSTEM_NOT_REDUCED = 15,         /* the system is not reduced after free reduction */
+    SUBGROUPS_TEXT_MALFORMED = 16,             /* the text has more than 256 bytes, or is malformed; place: the first byte with
+                                                  which no well-formed text can go on, or the text's length where it only ends
+                                                  too early; 0 where it is too long */
+    SUBGROUPS_NESTING_TOO_DEEP = 17,           /* the text nests more than 8 deep; place: the first sign ( or [ that does */
+    SUBGROUPS_EXPONENT_OUT_OF_RANGE = 18       /* an exponent is not from -63 to 63; place: the first such caret */
 };
 
 /* The answer of a call. number and place are those of a refusal; what a call does not give is 0, and under a refusal all that
@@ -158,6 +181,15 @@ void subgroups_ask(const uint8_t *system, size_t system_len, const uint8_t *targ
 void subgroups_member(const uint8_t *system, size_t system_len, const uint8_t *target, size_t target_len,
                       uint8_t *words, size_t words_len, uint8_t *log, size_t log_len,
                       uint8_t *product, size_t product_len, subgroups_answer *answer);
+
+/* Reads a text and writes the freely reduced word that it stands for, as one record. Refusals 16, 17, 18, 10 and 12, each tried
+ * over the whole text. */
+void subgroups_read_text(const uint8_t *text, size_t text_len, uint8_t *word, size_t word_len, subgroups_answer *answer);
+
+/* Writes the word of a record as text, as it stands, and gives the text's length, at most 125 bytes; under a refusal length is 0.
+ * There is no end mark. For a freely reduced word read_text gives the word back. Refusals 6 and 10. */
+void subgroups_write_text(const uint8_t *word, size_t word_len, uint8_t *text, size_t text_len, uint64_t *length,
+                          subgroups_answer *answer);
 
 #ifdef __cplusplus
 }

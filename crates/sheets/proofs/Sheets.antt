@@ -9,6 +9,12 @@ use Rattle.slots.specs.Systems.{freelyReducedWords}
 use Rattle.systems.specs.Factoring.{leading}
 use Rattle.asking.specs.Asking.{questionRules, readyRules}
 use Rattle.membership.specs.Membership.{memberTests}
+use Rattle.syntax.specs.Parse.{treeOf}
+use Rattle.syntax.specs.Rules.{fits, textRules}
+use Rattle.syntax.specs.Scan.{shapeRule}
+use Rattle.syntax.specs.WordTexts.{textOf}
+use Rattle.text.specs.Read.{readRules, readTests, textWord}
+use Rattle.text.specs.Write.{writeRules}
 use Rattle.lines.specs.Lines.{firstLine, refusalLine}
 use Rattle.output.specs.Output.{answerOutput, inputRules, programLog, programProduct, programOutput, programWords}
 use Rattle.lines.specs.Text.{decimal}
@@ -20,7 +26,7 @@ _and_ : {A B : Type 0} → A → B → A × B
 a and b = (a, b)
 
 pub sheets-hold : EachSays sheets
-unfolding flipByte inverse shortening halfEnd next leading recordRules lettersRule systemRules wordRoom freelyReducedWords systemRoom targetRules questionRules readyRules memberTests decimal refusalLine firstLine inputRules programWords programLog programProduct answerOutput programOutput
+unfolding flipByte inverse treeOf textRules shapeRule fits textWord readTests readRules writeRules textOf shortening halfEnd next leading recordRules lettersRule systemRules wordRoom freelyReducedWords systemRoom targetRules questionRules readyRules memberTests decimal refusalLine firstLine inputRules programWords programLog programProduct answerOutput programOutput
 sheets-hold =
     (refl, refl)
     and (refl, refl)
@@ -45,6 +51,28 @@ sheets-hold =
     and (λ s buffer e. rw e (refl, refl))
     and (λ input e. rw e refl)
     and (λ input e. rw e refl)
+    and (refl, refl)
+    and (refl, refl)
+    and (refl, refl)
+    and (refl, refl)
+    and (refl, refl)
+    and (refl, refl)
+    and (refl, refl)
+    and (refl, refl)
+    and (refl, refl)
+    and (refl, refl)
+    and (refl, refl)
+    and (refl, refl)
+    and (refl, refl)
+    and (refl, refl)
+    and (refl, refl)
+    and (refl, refl)
+    and (refl, refl)
+    and (λ text buffer e. rw e (refl, refl))
+    and (refl, refl)
+    and (refl, refl)
+    and (refl, refl)
+    and (refl, refl)
     and refl
     and refl
     and refl

@@ -9,12 +9,15 @@ use lib.ListN.{length, replicate}
 use Rattle.records.specs.Records.{recordOf}
 use Rattle.words.specs.Buffers.{written}
 use Rattle.tidy.specs.Tidy.{tidyAnswer, tidyBuffer}
+use Rattle.records.specs.Answers.{refusedWith}
 use Rattle.records.specs.declared.answers.Verdict.{Verdict}
-use Rattle.records.specs.declared.answers.Verdict.the-variants.{Done, Member, NotMember, Refused}
+use Rattle.records.specs.declared.answers.Verdict.the-variants.{Done, Member, NotMember}
 use Rattle.reduction.specs.Reduction.{reduceAnswer, reduceWords, reduceLog}
 use Rattle.reduction.specs.declared.answers.Reduction.{Reduction}
 use Rattle.asking.specs.Asking.{askAnswer, askProduct}
 use Rattle.membership.specs.Membership.{memberAnswer, memberLog, memberProduct, memberWords}
+use Rattle.text.specs.Read.{readAnswer, readBuffer}
+use Rattle.text.specs.Write.{writeAnswer, writeBuffer}
 use Rattle.output.specs.Output.{programOutput}
 use Rattle.lines.specs.Text.{bytesIn}
 
@@ -57,6 +60,12 @@ pub data Sheet : Type 0 where
   asks : String → List String → String → ℕ → Verdict → List ℕ → Sheet
   -- a length of a system, and the number of the refusal that tidy gives to every system of that length
   refuses : String → ℕ → ℕ → Sheet
+  -- a text, the length of the word buffer, the verdict, and that buffer afterwards
+  reads : String → String → ℕ → Verdict → List ℕ → Sheet
+  -- a length of a text, and the refusal that read gives to every text of that length
+  refusesText : String → ℕ → Verdict → Sheet
+  -- a word, and its text
+  writes : String → String → String → Sheet
   -- words on the program's standard input, the last one the target, and the lines that it prints
   prints : String → List String → List String → Sheet
   -- a length of the program's input, and the line that it prints for every input of that length
@@ -87,7 +96,7 @@ Decides o target verdict product =
 
 -- a refusal whose place is 0
 abbrev pub refused : ℕ → Verdict
-refused n = Refused (record { number = n; place = 0 })
+refused n = refusedWith n 0
 
 -- what a sheet says
 abbrev pub Says : Sheet → Type 0
@@ -101,6 +110,13 @@ Says (asks label words target room verdict product) =
     × (askProduct (systemIn words) (recordIn target) (lent room) ≡ product)
 Says (refuses label n number) =
     (s buffer : List ℕ) → length s ≡ n → (tidyAnswer s buffer ≡ record { verdict = refused number }) × (tidyBuffer s buffer ≡ buffer)
+Says (reads label text room verdict word) =
+    (readAnswer (bytesIn text) (lent room) ≡ record { verdict = verdict }) × (readBuffer (bytesIn text) (lent room) ≡ word)
+Says (refusesText label n verdict) =
+    (text buffer : List ℕ) → length text ≡ n → (readAnswer text buffer ≡ record { verdict = verdict }) × (readBuffer text buffer ≡ buffer)
+Says (writes label word text) =
+    (writeAnswer (recordIn word) (lent 256) ≡ record { verdict = Done; length = length (bytesIn text) })
+    × (writeBuffer (recordIn word) (lent 256) ≡ written (bytesIn text) (lent 256))
 Says (prints label given lines) = programOutput (systemIn given) ≡ linesIn lines
 Says (printsFor label n line) = (input : List ℕ) → length input ≡ n → programOutput input ≡ linesIn (line ∷ [])
 
@@ -145,6 +161,28 @@ sheets =
     ∷ refuses "L3" 1500 2
     ∷ printsFor "L4" 1087 "refused 1 at 0"
     ∷ printsFor "L5" 1089 "refused 2 at 0"
+    ∷ reads "T1" "(ab)^-3" 64 Done (recordIn "BABABA")
+    ∷ reads "T2" "[a,b]" 64 Done (recordIn "ABab")
+    ∷ reads "T3" "" 64 Done (recordIn "")
+    ∷ reads "T4" "((a)^2[b,])^0b^-0c^07" 64 Done (recordIn "ccccccc")
+    ∷ reads "T5" "[a^63,a^63]" 64 Done (recordIn "")
+    ∷ reads "T6" "[a^16,b^16]" 64 (refused 12) (lent 64)
+    ∷ reads "T7" "[a^16,b^16]^0" 64 (refused 12) (lent 64)
+    ∷ reads "T8" "A^63(a^32)^2" 64 (refused 12) (lent 64)
+    ∷ reads "T9" "a^63aA" 64 (refused 12) (lent 64)
+    ∷ reads "T10" "(a^60b^5)^0" 64 (refused 12) (lent 64)
+    ∷ reads "T11" "a^63aA" 63 (refused 10) (lent 63)
+    ∷ reads "T12" "a^64" 63 (refusedWith 18 1) (lent 63)
+    ∷ reads "T13" "a^64(" 64 (refusedWith 16 5) (lent 64)
+    ∷ reads "T14" "a^100" 64 (refusedWith 16 4) (lent 64)
+    ∷ reads "T15" "[a]" 64 (refusedWith 16 2) (lent 64)
+    ∷ reads "T16" "((((((((a))))))))" 64 Done (recordIn "a")
+    ∷ reads "T17" "((([,[((((a^64)))),]])))" 64 (refusedWith 17 9) (lent 64)
+    ∷ refusesText "T18" 257 (refused 16)
+    ∷ writes "W1" "aaBBBc" "a^2b^-3c"
+    ∷ writes "W2" "aAa" "aAa"
+    ∷ writes "W3" "" ""
+    ∷ writes "W4" "zzzzzzzzzzZ" "z^10Z"
     ∷ prints "P3" ("ab" ∷ "b" ∷ "a" ∷ [])
     ("moves 1 rank 2 independent yes member yes"
     ∷ "a.............................................................."

@@ -14,7 +14,14 @@ use Rattle.membership.proofs.Meaning.{member-means, member-turns}
 use Rattle.asking.specs.Asking.{askAnswer, askProduct}
 use Rattle.asking.specs.Meaning.{AskMeans}
 use Rattle.asking.proofs.Meaning.{ask-means}
-use Rattle.subgroups_c.specs.Numbers.{plainNumbers, testNumbers, reductionNumbers}
+use Rattle.text.specs.Meaning.{ReadMeans, WriteMeans}
+use Rattle.text.specs.Read.{readAnswer, readBuffer}
+use Rattle.text.specs.Write.{writeAnswer, writeBuffer}
+use Rattle.text.specs.declared.Writing.{Writing}
+use Rattle.text.specs.ReadBack.{ReadBack}
+use Rattle.text.proofs.ReadMeaning.{read-means}
+use Rattle.text.proofs.WriteMeaning.{read-back, write-means}
+use Rattle.subgroups_c.specs.Numbers.{plainNumbers, testNumbers, reductionNumbers, writeNumbers}
 
 pub plain-of : {r : List ℕ} {a : Answer} (b : Answer) → r ≡ plainNumbers a → a ≡ b → r ≡ plainNumbers b
 plain-of b e f = e ∙ ap plainNumbers f
@@ -24,6 +31,12 @@ test-of b e f = e ∙ ap testNumbers f
 
 pub reduction-of : {r : List ℕ} {a : Reduction} (b : Reduction) → r ≡ reductionNumbers a → a ≡ b → r ≡ reductionNumbers b
 reduction-of b e f = e ∙ ap reductionNumbers f
+
+pub write-of : {r : List ℕ} (a b : Writing) → r ≡ plainNumbers (record { verdict = a .verdict }) → a ≡ b → r ≡ writeNumbers b
+write-of a b e f = e ∙ ap writeNumbers f
+
+pub length-of : (a b : Writing) → a ≡ b → a .length ≡ b .length
+length-of a b e = ap (λ (x : Writing). x .length) e
 
 -- the seven numbers, each known by an equation
 pub seven : {a b c d e f g a′ b′ c′ d′ e′ f′ g′ : ℕ} → a ≡ a′ → b ≡ b′ → c ≡ c′ → d ≡ d′ → e ≡ e′ → f ≡ f′ → g ≡ g′
@@ -49,3 +62,12 @@ module _ (s t words log product words′ log′ product′ : List ℕ) (wrote : 
   pub member-in-turn : NotRefused (memberAnswer s t words log product .verdict)
       → InTurn s t words log product (memberAnswer s t words log product) words′ log′ product′
   member-in-turn = member-turns s t words log product (memberAnswer s t words log product) words′ log′ product′ refl wrote logged gave
+
+pub read-meaning : (text word word′ : List ℕ) → word′ ≡ readBuffer text word → ReadMeans text word (readAnswer text word) word′
+read-meaning text word word′ wrote = read-means text word refl refl wrote
+
+pub write-meaning : (word text text′ : List ℕ) → text′ ≡ writeBuffer word text → WriteMeans word text (writeAnswer word text) text′
+write-meaning word text text′ wrote = write-means word text refl wrote
+
+pub read-back-meaning : (word text text′ : List ℕ) → text′ ≡ writeBuffer word text → ReadBack word (writeAnswer word text) text′
+read-back-meaning word text text′ wrote = read-back word text refl wrote

@@ -8,6 +8,7 @@ use Rattle.records.specs.Answers.{verdictNumber, refusalNumber, refusalPlace}
 use Rattle.records.specs.declared.answers.Answer.{Answer}
 use Rattle.reduction.specs.declared.answers.Reduction.{Reduction}
 use Rattle.reduction.specs.declared.answers.Tested.{Tested}
+use Rattle.text.specs.declared.Writing.{Writing}
 
 -- yes is 1 and no is 0
 abbrev pub oneOrZero : Bool → ℕ
@@ -32,3 +33,7 @@ testNumbers a =
 abbrev pub reductionNumbers : Reduction → List ℕ
 reductionNumbers a =
     verdictNumber (a .verdict) ∷ refusalNumber (a .verdict) ∷ refusalPlace (a .verdict) ∷ a .moves ∷ a .rank ∷ oneOrZero (a .independent) ∷ 0 ∷ []
+
+-- the answer of write, whose length has a pointer of its own
+abbrev pub writeNumbers : Writing → List ℕ
+writeNumbers a = plainNumbers (record { verdict = a .verdict })

@@ -10,7 +10,11 @@ ghost use Rattle.asking.specs.Asking.{askAnswer, askProduct};
 ghost use Rattle.asking.specs.Meaning.{AskMeans};
 ghost use Rattle.membership.specs.Meaning.{InTurn, MemberMeans, NotRefused};
 ghost use Rattle.membership.specs.Membership.{memberAnswer, memberLog, memberProduct, memberWords};
-ghost use Rattle.subgroups_c.specs.Numbers.{isBackward, oneOrZero, plainNumbers, reductionNumbers, testNumbers};
+ghost use Rattle.text.specs.Meaning.{ReadMeans, WriteMeans};
+ghost use Rattle.text.specs.Read.{readAnswer, readBuffer};
+ghost use Rattle.text.specs.ReadBack.{ReadBack};
+ghost use Rattle.text.specs.Write.{writeAnswer, writeBuffer};
+ghost use Rattle.subgroups_c.specs.Numbers.{isBackward, oneOrZero, plainNumbers, reductionNumbers, testNumbers, writeNumbers};
 use records::answers::Answer;
 use records::answers::Verdict;
 use reduction::answers::Reduction;
@@ -210,4 +214,35 @@ pub extern "C" fn subgroups_member(
 {
     let answer = membership::member(system, target, words, log, product);
     *numbers = reduction_numbers(answer);
+}
+
+// Read: the freely reduced word that a text with powers and commutators stands for, as a record.
+#[no_mangle]
+pub extern "C" fn subgroups_read_text(text: &[u8], word: &mut [u8], numbers: &mut [u64; 7])
+    ensures word { λ _. ⌜ now (word .exit) ≡ readBuffer (now (text .entry)) (now (word .entry)) ⌝ }
+    ensures numbers { λ _. ⌜ now (numbers .exit) ≡ plainNumbers (readAnswer (now (text .entry)) (now (word .entry))) ⌝ }
+    ensures means { λ _. ⌜ ReadMeans (now (text .entry)) (now (word .entry)) (readAnswer (now (text .entry)) (now (word .entry))) (now (word .exit)) ⌝ }
+{
+    let answer = text::read(text, word);
+    *numbers = plain_numbers(answer);
+}
+
+// Write: the text of the word in a record, and its length.
+#[no_mangle]
+pub extern "C" fn subgroups_write_text(
+    word: &[u8],
+    text: &mut [u8],
+    length: &mut u64,
+    numbers: &mut [u64; 7],
+)
+    ensures text { λ _. ⌜ now (text .exit) ≡ writeBuffer (now (word .entry)) (now (text .entry)) ⌝ }
+    ensures length { λ _. ⌜ now (length .exit) ≡ writeAnswer (now (word .entry)) (now (text .entry)) .length ⌝ }
+    ensures numbers { λ _. ⌜ now (numbers .exit) ≡ writeNumbers (writeAnswer (now (word .entry)) (now (text .entry))) ⌝ }
+    ensures means { λ _. ⌜ WriteMeans (now (word .entry)) (now (text .entry)) (writeAnswer (now (word .entry)) (now (text .entry))) (now (text .exit)) ⌝ }
+    ensures readBack { λ _. ⌜ ReadBack (now (word .entry)) (writeAnswer (now (word .entry)) (now (text .entry))) (now (text .exit)) ⌝ }
+{
+    let answer = text::write(word, text);
+    *length = answer.length as u64;
+    let verdict = answer.verdict;
+    *numbers = plain_numbers(Answer { verdict });
 }
