@@ -15,6 +15,9 @@ pub const PRODUCT_BUFFER_SHORT: u64 = 11;
 pub const WORD_TOO_LONG: u64 = 12;
 pub const LOG_BUFFER_SHORT: u64 = 13;
 pub const SYSTEM_NOT_REDUCED: u64 = 15;
+pub const TEXT_MALFORMED: u64 = 16;
+pub const NESTING_TOO_DEEP: u64 = 17;
+pub const EXPONENT_OUT_OF_RANGE: u64 = 18;
 
 /// A refusal's number and place.
 #[derive(Clone, Copy, Debug, PartialEq, Eq)]

@@ -20,7 +20,7 @@ const VERDICTS: [&str; 3] = ["done", "member", "not a member"];
 pub struct Seen {
     pub calls: u64,
     verdicts: [u64; 3],
-    refusals: [u64; 16],
+    refusals: [u64; 19],
     /// How many systems were reduced.
     pub reduced: u64,
     pub most_moves: u64,
@@ -43,11 +43,12 @@ impl Seen {
 pub type Check<const INPUTS: usize, const BUFFERS: usize> =
     fn([&[u8]; INPUTS], [&[u8]; BUFFERS], Answer) -> Result<(), &'static str>;
 
-/// An entry with its buffers, of which the first input is the system, the answers of the last call,
-/// and what was seen so far.
+/// An entry with its buffers, the answers of the last call, and what was seen so far.
 pub struct Comparison<const INPUTS: usize, const BUFFERS: usize> {
     name: &'static str,
     entry: Entry<INPUTS, BUFFERS>,
+    /// Whether the first input is a system.
+    has_system: bool,
     inputs: [Pair; INPUTS],
     buffers: [Pair; BUFFERS],
     proved: LentAnswer,
@@ -60,7 +61,7 @@ pub struct Comparison<const INPUTS: usize, const BUFFERS: usize> {
 }
 
 impl<const INPUTS: usize, const BUFFERS: usize> Comparison<INPUTS, BUFFERS> {
-    /// The comparison of an entry with these names, before the first call.
+    /// The comparison of an entry with these names, before the first call; the first input is the system.
     pub fn new(
         name: &'static str,
         entry: Entry<INPUTS, BUFFERS>,
@@ -70,6 +71,7 @@ impl<const INPUTS: usize, const BUFFERS: usize> Comparison<INPUTS, BUFFERS> {
         Comparison {
             name,
             entry,
+            has_system: true,
             inputs: inputs.map(Pair::new),
             buffers: buffers.map(Pair::new),
             proved: LentAnswer::new(),
@@ -77,6 +79,19 @@ impl<const INPUTS: usize, const BUFFERS: usize> Comparison<INPUTS, BUFFERS> {
             another_check: None,
             refusal_check: None,
             seen: Seen::default(),
+        }
+    }
+
+    /// The comparison of an entry that is lent no system.
+    pub fn without_system(
+        name: &'static str,
+        entry: Entry<INPUTS, BUFFERS>,
+        inputs: [&'static str; INPUTS],
+        buffers: [&'static str; BUFFERS],
+    ) -> Self {
+        Comparison {
+            has_system: false,
+            ..Comparison::new(name, entry, inputs, buffers)
         }
     }
 
@@ -176,9 +191,9 @@ impl<const INPUTS: usize, const BUFFERS: usize> Comparison<INPUTS, BUFFERS> {
         self.buffers[buffer].rust.part()
     }
 
-    /// The length of the system that was lent to the last call.
-    fn system_length(&self) -> usize {
-        self.inputs[0].rust.part().len()
+    /// The length of the system that was lent to the last call, if one was.
+    fn system_length(&self) -> Option<usize> {
+        self.has_system.then(|| self.inputs[0].rust.part().len())
     }
 
     /// Counts the last call if both sides agree, and ends the program if they do not.
@@ -188,8 +203,10 @@ impl<const INPUTS: usize, const BUFFERS: usize> Comparison<INPUTS, BUFFERS> {
         if !same_bytes || !self.proved.holds_just(self.rust) {
             self.end_with("the two sides disagree");
         }
-        if let Err(fault) = check_by_length(self.system_length(), self.rust) {
-            self.end_with(fault);
+        if let Some(length) = self.system_length() {
+            if let Err(fault) = check_by_length(length, self.rust) {
+                self.end_with(fault);
+            }
         }
         let check = match self.rust.verdict {
             REFUSED => self.refusal_check,
@@ -212,8 +229,8 @@ impl<const INPUTS: usize, const BUFFERS: usize> Comparison<INPUTS, BUFFERS> {
         }
     }
 
-    /// Says how many calls agreed, after a look that just these verdicts, the refusals of a system and
-    /// just these other refusals were among them, and gives the number of calls.
+    /// Says how many calls agreed, after a look that just these verdicts, the refusals of a system where
+    /// there is one, and just these other refusals were among them, and gives the number of calls.
     pub fn end(&self, verdicts: &[u64], refusals: &[u64]) -> u64 {
         let name = self.name;
         let mut outcomes = Vec::new();
@@ -229,7 +246,7 @@ impl<const INPUTS: usize, const BUFFERS: usize> Comparison<INPUTS, BUFFERS> {
                 outcomes.push(format!("refused {number}: {count}"));
             }
             let of_system = (SYSTEM_UNEVEN..=LETTER_AFTER_STOP).contains(&number);
-            let expected = of_system || refusals.contains(&number);
+            let expected = of_system && self.has_system || refusals.contains(&number);
             assert_eq!(count > 0, expected, "{name} and refusal {number}");
         }
         let calls = self.seen.calls;
@@ -253,11 +270,12 @@ impl<const INPUTS: usize, const BUFFERS: usize> Comparison<INPUTS, BUFFERS> {
         println!("verdict, number, place, moves, rank, independent, reduced");
         println!("  proved library: {:?}", self.proved.numbers);
         println!("  Rust version:   {:?}", self.rust.numbers());
-        let length = self.system_length();
-        println!(
-            "by its length of {length} bytes alone the system is {}",
-            demanded(length)
-        );
+        if let Some(length) = self.system_length() {
+            println!(
+                "by its length of {length} bytes alone the system is {}",
+                demanded(length)
+            );
+        }
         if !self.proved.alone_written() {
             println!("the proved library wrote beside its answer");
         }

@@ -67,6 +67,21 @@ extern "C" {
         product_len: usize,
         answer: *mut Numbers,
     );
+    fn subgroups_read_text(
+        text: *const u8,
+        text_len: usize,
+        word: *mut u8,
+        word_len: usize,
+        answer: *mut Numbers,
+    );
+    fn subgroups_write_text(
+        word: *const u8,
+        word_len: usize,
+        text: *mut u8,
+        text_len: usize,
+        length: *mut u64,
+        answer: *mut Numbers,
+    );
 }
 
 /// A call of the proved library.
@@ -198,3 +213,43 @@ pub const MEMBER: Entry<2, 3> = Entry {
         reference::member(system, target, words, log, product)
     },
 };
+
+/// Read text: the text; the word buffer.
+pub const READ_TEXT: Entry<1, 1> = Entry {
+    proved: |[text], [word], answer| unsafe {
+        subgroups_read_text(
+            text.as_ptr(),
+            text.len(),
+            word.as_mut_ptr(),
+            word.len(),
+            answer,
+        );
+    },
+    rust: |[text], [word]| reference::read_text(text, word),
+};
+
+/// How many bytes are lent for the number that is the length of a text.
+pub const LENGTH: usize = size_of::<u64>();
+
+/// Write text: the word; the text buffer, and the bytes of the number that is the length of the text.
+pub const WRITE_TEXT: Entry<1, 2> = Entry {
+    proved: |[word], [text, length], answer| unsafe {
+        let number = length.as_mut_ptr().cast::<u64>();
+        assert!(number.is_aligned() && length.len() == LENGTH);
+        subgroups_write_text(
+            word.as_ptr(),
+            word.len(),
+            text.as_mut_ptr(),
+            text.len(),
+            number,
+            answer,
+        );
+    },
+    rust: |[word], [text, length]| put_length(reference::write_text(word, text), length),
+};
+
+/// Puts the length of a text into its bytes and gives the answer alone.
+pub fn put_length((answer, number): (Answer, u64), length: &mut [u8]) -> Answer {
+    length.copy_from_slice(&number.to_ne_bytes());
+    answer
+}

@@ -76,7 +76,7 @@ pub fn check_refusal(
 
 /// Whether an entry of the proved library, lent these inputs and buffers as long as these, gives this
 /// answer, leaves these bytes in the buffers and changes nothing else.
-fn gives<const INPUTS: usize, const BUFFERS: usize>(
+pub fn gives<const INPUTS: usize, const BUFFERS: usize>(
     entry: Entry<INPUTS, BUFFERS>,
     inputs: [&[u8]; INPUTS],
     left: [&[u8]; BUFFERS],

@@ -134,7 +134,8 @@ impl LentAnswer {
     }
 }
 
-/// The pattern's byte at a place, never a letter, a full stop, a digit or a line feed.
+/// The pattern's byte at a place, never a letter, a digit, another sign of texts, a full stop or a
+/// line feed.
 fn pattern(place: usize) -> u8 {
     0x80 | (place.wrapping_mul(37) + (place >> 7)) as u8
 }

@@ -10,10 +10,13 @@ mod inputs;
 mod lent;
 mod member;
 mod multiply;
+mod read_text;
 mod reduce;
 mod replay;
 mod test;
+mod texts;
 mod tidy;
+mod write_text;
 
 /// Compares one entry after another and says how many calls agreed.
 fn main() {
@@ -23,6 +26,8 @@ fn main() {
         + test::compare()
         + reduce::compare()
         + ask::compare()
-        + member::compare();
+        + member::compare()
+        + read_text::compare()
+        + write_text::compare();
     println!("compared {calls} calls: all agree");
 }
