@@ -7,6 +7,7 @@ use mathlib.Core.Option.{none, some}
 use mathlib.Core.Path.{_∙_, _≡_, ap, sym}
 use native.Mathlib.Nat.{le-antisymm}
 use native.Mathlib.Numerals.{add-one}
+use native.Mathlib.Omega.{arith}
 use lib.ListN.{length, take}
 use lib.Seq.{length-take-le}
 use borrow.Author.Tests.{le-leb, lt-leb, not-false, not-true}
@@ -14,11 +15,11 @@ use Rattle.words.specs.Alphabet.{bytes}
 use Rattle.words.specs.Buffers.{written}
 use Rattle.words.specs.Words.{freelyReduce, inverse}
 use Rattle.words.proofs.Alphabet.{byteLaws}
-use Rattle.words.proofs.Buffers.{front-part, written-take}
+use Rattle.words.proofs.Buffers.{front-part, front-short, written-take}
 use Rattle.words.proofs.FreeReduction.{freelyReduce-twice}
-use Rattle.words.proofs.Joining.{pushed-twice}
+use Rattle.words.proofs.Joining.{pushed-freelyReduced, pushed-twice}
 use Rattle.syntax.specs.TreeWords.{commutator, times}
-use Rattle.powers.specs.Bounded.{within, wordIn}
+use Rattle.powers.specs.Bounded.{Sound, joinOf, within, wordIn}
 use Rattle.powers.specs.declared.Word.{Word}
 
 -- the freely reduced word at the beginning of a row, and its copy
@@ -51,6 +52,33 @@ fits-some w e = rw (not-false (w .fits) e, front-part (w .letters) (w .length))
 pub freelyReduced-within : (r : Word) (w row : List ℕ) → row ≡ freelyReduce bytes w → wordIn r ≡ within row → wordIn r ≡ within w
 unfolding within
 freelyReduced-within r w row e kept = kept ∙ rw (e, freelyReduce-twice bytes byteLaws w)
+
+-- a word put after another in the row of that one
+module _ (u v : Word) (letters : List ℕ) (size : ℕ) (su : Sound u) (sv : Sound v) (same : length letters ≡ length (u .letters))
+    (most : size ≤ u .length + length (take (v .length - 0) (v .letters)))
+    (told : take size letters ≡ freelyReduce bytes (take (u .length) (u .letters) ++ take (v .length - 0) (v .letters))) where
+  joined-length : length (take size letters) ≡ size
+  joined-length = length-take-le size letters (omega (arith, su .within, su .whole, front-short (v .letters) (v .length) 63 (sv .within)))
+
+  joined-freelyReduced : freelyReduce bytes (take size letters) ≡ take size letters
+  joined-freelyReduced = pushed-freelyReduced (take (u .length) (u .letters) ++ take (v .length - 0) (v .letters)) letters size told
+
+  module _ (fu : not (u .fits) ≡ false) (fv : not (v .fits) ≡ false) where
+    joined-within : within (take size letters) ≡ joinOf (wordIn u) (wordIn v)
+    unfolding within
+    joined-within = rw (told, fits-some u fu, fits-some v fv, front-part (u .letters) (u .length), freelyReduce-twice bytes byteLaws)
+
+    pub joined-long : 63 < size → wordIn (record { letters = letters; length = 0; fits = false }) ≡ joinOf (wordIn u) (wordIn v)
+    unfolding within wordIn
+    joined-long h =
+        let e : within (take size letters) ≡ none = rw (joined-freelyReduced, joined-length, lt-leb size 63 h) in
+        sym e ∙ joined-within
+
+    pub joined-short : size ≤ 63 → wordIn (record { letters = letters; length = size; fits = true }) ≡ joinOf (wordIn u) (wordIn v)
+    unfolding within wordIn
+    joined-short h =
+        let e : within (take size letters) ≡ some (take size letters) = rw (joined-freelyReduced, joined-length, le-leb size 63 h) in
+        sym e ∙ joined-within
 
 -- a commutator, its four factors put into a row in turn
 pub commutator-pushed : (u v r s t x : List ℕ) (a b c d : ℕ) → take a r ≡ freelyReduce bytes (inverse bytes u)

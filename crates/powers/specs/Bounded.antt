@@ -15,7 +15,7 @@ use Rattle.powers.specs.declared.Word.{Word}
 -- the letters of the struct are those of a freely reduced word
 pub record Sound (w : Word) : Type 0 where
   pub within : w .length ≤ 63
-  pub whole : length (w .letters) ≡ 64
+  pub whole : length (w .letters) ≡ 128
   pub freely : freelyReduce bytes (take (w .length) (w .letters)) ≡ take (w .length) (w .letters)
 
 -- the word that the struct holds, none where it was too long

@@ -11,9 +11,9 @@ ghost use Rattle.powers.specs.Bounded.{Sound, commuteOf, joinOf, raiseOf
 use words::letters::copy;
 use words::product::push_signed;
 
-// A freely reduced word, or the mark that it has more than 63 letters.
+// A freely reduced word, or the mark that it has more than 63 letters. There is room for another one after it.
 pub struct Word {
-    pub letters: [u8; 64],
+    pub letters: [u8; 128],
     pub length: usize,
     pub fits: bool,
 }
@@ -23,7 +23,7 @@ pub fn empty() -> Word
     ensures sound { λ r. ⌜ Sound r ⌝ }
     ensures word { λ r. ⌜ wordIn r ≡ some [] ⌝ }
 {
-    let letters = [0u8; 64];
+    let letters = [0u8; 128];
     Word {
         letters,
         length: 0,
@@ -36,7 +36,7 @@ pub fn single(b: u8) -> Word
     ensures sound { λ r. ⌜ Sound r ⌝ }
     ensures word { λ r. ⌜ wordIn r ≡ some (b ∷ []) ⌝ }
 {
-    let mut letters = [0u8; 64];
+    let mut letters = [0u8; 128];
     letters[0] = b;
     Word {
         letters,
@@ -52,7 +52,7 @@ fn kept(row: &[u8], size: usize) -> Word
     ensures sound { λ r. ⌜ Sound r ⌝ }
     ensures word { λ r. ⌜ wordIn r ≡ within (take size (now (row .entry))) ⌝ }
 {
-    let mut letters = [0u8; 64];
+    let mut letters = [0u8; 128];
     if size > 63 {
         return Word {
             letters,
@@ -83,23 +83,21 @@ pub fn join(u: Word, v: Word) -> Word
     }
     let n = u.length;
     let m = v.length;
-    let first = u.letters;
     let second = v.letters;
-    let mut row = [0u8; 128];
-    let size = join_letters(&first[0..n], &second[0..m], &mut row);
-    kept(&row, size)
-}
-
-// Writes one word after the other into a row, freely reduced, and answers the length.
-fn join_letters(u: &[u8], v: &[u8], row: &mut [u8]) -> usize
-    requires { ⌜ (length (now u) ≤ 63) × (length (now v) ≤ 63) × (length (now row) ≡ 128) ⌝ }
-    requires { ⌜ freelyReduce bytes (now u) ≡ now u ⌝ }
-    requires { ⌜ freelyReduce bytes (now v) ≡ now v ⌝ }
-    ensures inside { λ r. ⌜ r ≤ 128 ⌝ }
-    ensures word { λ r. ⌜ take r (now (row .exit)) ≡ freelyReduce bytes (now (u .entry) ++ now (v .entry)) ⌝ }
-{
-    let a = push_signed(row, 0, false, u);
-    push_signed(row, a, false, v)
+    let mut letters = u.letters;
+    let size = push_signed(&mut letters, n, false, &second[0..m]);
+    if size > 63 {
+        return Word {
+            letters,
+            length: 0,
+            fits: false,
+        };
+    }
+    Word {
+        letters,
+        length: size,
+        fits: true,
+    }
 }
 
 // The inverse of u, the inverse of v, u, v.

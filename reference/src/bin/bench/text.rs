@@ -1,5 +1,5 @@
-//! Times the reader and the writer of texts. The Rust side is the quick one, which makes one pass and
-//! builds no tree.
+//! Times the reader and the writer of texts, against the Rust version and against the quick one, which
+//! makes one pass and builds no tree.
 
 use crate::entries::{put_length, Entry, LENGTH, READ_TEXT, WRITE_TEXT};
 use crate::timing::{line, time};
@@ -37,8 +37,10 @@ pub fn bench() {
         ("random, nested up to 8 deep", any_texts(random)),
     ] {
         let texts: Vec<[Vec<u8>; 1]> = texts.into_iter().map(|text| [text]).collect();
-        let times = time(QUICK_READ_TEXT, &texts, [RECORD]);
+        let times = time(READ_TEXT, &texts, [RECORD]);
         line(&format!("read text, {name}"), times);
+        let times = time(QUICK_READ_TEXT, &texts, [RECORD]);
+        line(&format!("read text, {name}, to one pass"), times);
     }
     let runs = || random.letters_in_runs(3, LONGEST);
     let runs = std::iter::repeat_with(runs).take(TEXTS).collect();
@@ -55,8 +57,10 @@ pub fn bench() {
         ("one letter 63 times", vec![b"Z".repeat(LONGEST)]),
     ] {
         let words: Vec<[Vec<u8>; 1]> = words.iter().map(|word| [record(word).to_vec()]).collect();
-        let times = time(QUICK_WRITE_TEXT, &words, [LONGEST_TEXT, LENGTH]);
+        let times = time(WRITE_TEXT, &words, [LONGEST_TEXT, LENGTH]);
         line(&format!("write text, {name}"), times);
+        let times = time(QUICK_WRITE_TEXT, &words, [LONGEST_TEXT, LENGTH]);
+        line(&format!("write text, {name}, to one pass"), times);
     }
 }
 
