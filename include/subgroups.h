@@ -50,8 +50,9 @@
  * Texts      A text is a word as people write it, at most 256 bytes without an end mark: letters, a power such as (ab)^-3, and
  *            [u,v], which is the inverse of u, the inverse of v, u, v. A text is a product of any number of factors, none
  *            included; a factor is a letter, a group ( ) of a product, or a bracket [ , ] of two, with at most one power after
- *            it. There are no spaces. Groups and brackets nest at most 8 deep, both kinds counted together; exponents run from
- *            -63 to 63, in 1 or 2 digits and without a plus sign.
+ *            it, which repeats that factor alone, or its inverse: ab^2 is abb. There are no spaces, and a line feed or zero byte
+ *            at the end does not belong to a text. Groups and brackets nest at most 8 deep, both kinds counted together;
+ *            exponents run from -63 to 63, in 1 or 2 digits and without a plus sign.
  *
  *                (ab)^-3       BABABA
  *                [a,b]         ABab
@@ -126,11 +127,14 @@ enum subgroups_refusal {
                                                   such in the log */
     SUBGROUPS_SLOT_MISSING = 9,                /* the product names a slot that the system does not have; place: the first
                                                   such letter in the product */
-    SUBGROUPS_WORDS_BUFFER_SHORT = 10,         /* words, or word, has no room for the output; text has less than 256 bytes */
+    SUBGROUPS_WORDS_BUFFER_SHORT = 10,         /* words, or word, has no room for the output, or the text
+                                                  buffer of write_text has less than 256 bytes */
     SUBGROUPS_PRODUCT_BUFFER_SHORT = 11,       /* the product buffer is shorter than 64 bytes */
     SUBGROUPS_WORD_TOO_LONG = 12,              /* a move of replay, or multiply, comes to more than 63 letters; place: in
-                                                  replay the move's number in the log, counted from 1. In a text a factor,
-                                                  with or without its power, or the first factors of a product do */
+                                                  replay the move's number in the log, counted from 1. In
+                                                  read_text: a factor, with or without its power, or the first
+                                                  factors of a product, inside ( ) and [ ] too, come to more
+                                                  than 63 letters, even where later ones cancel: a^63aA */
     SUBGROUPS_LOG_BUFFER_SHORT = 13,           /* the moves do not fit the log */
     SUBGROUPS_SYSTEM_NOT_REDUCED = 15,         /* the system is not reduced after free reduction */
     SUBGROUPS_TEXT_MALFORMED = 16,             /* the text has more than 256 bytes, or is malformed; place: the first byte with
@@ -182,12 +186,13 @@ void subgroups_member(const uint8_t *system, size_t system_len, const uint8_t *t
                       uint8_t *words, size_t words_len, uint8_t *log, size_t log_len,
                       uint8_t *product, size_t product_len, subgroups_answer *answer);
 
-/* Reads a text and writes the freely reduced word that it stands for, as one record. Refusals 16, 17, 18, 10 and 12, each tried
- * over the whole text. */
+/* Reads a text and writes the freely reduced word that it stands for, as one record. Refusals 16, 17 and 18, each tried over the
+ * whole text, then 10 and 12. */
 void subgroups_read_text(const uint8_t *text, size_t text_len, uint8_t *word, size_t word_len, subgroups_answer *answer);
 
-/* Writes the word of a record as text, as it stands, and gives the text's length, at most 125 bytes; under a refusal length is 0.
- * There is no end mark. For a freely reduced word read_text gives the word back. Refusals 6 and 10. */
+/* Writes the word of a record as text, not freely reduced first, and gives the text's length, at most 125 bytes; under a refusal
+ * length is 0. There is no end mark. For a freely reduced word read_text gives the word back, and any other word freely reduced.
+ * Refusals 6 and 10. */
 void subgroups_write_text(const uint8_t *word, size_t word_len, uint8_t *text, size_t text_len, uint64_t *length,
                           subgroups_answer *answer);
 

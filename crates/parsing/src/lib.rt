@@ -14,6 +14,8 @@ use powers::raise;
 use powers::single;
 use records::record::is_letter;
 use scanning::exponent::read_exponent;
+use syntax::BRACKET_OPENS;
+use syntax::GROUP_OPENS;
 
 // A word read, and how many bytes were read for it.
 pub struct Reading {
@@ -50,10 +52,10 @@ fn factor(text: &[u8], room: usize) -> Reading
     ensures reads { λ r. ⌜ FactorReads room (now (text .entry)) r ⌝ }
 {
     let b = text[0];
-    if b == 91 {
+    if b == BRACKET_OPENS {
         return bracket(text, room);
     }
-    if b == 40 {
+    if b == GROUP_OPENS {
         let inner = product(&text[1..], room - 1);
         let word = inner.word;
         let end = inner.used + 2;
@@ -86,7 +88,11 @@ fn starts(b: u8) -> bool
     if letter {
         return true;
     }
-    if b == 40 { true } else { b == 91 }
+    if b == GROUP_OPENS {
+        true
+    } else {
+        b == BRACKET_OPENS
+    }
 }
 
 // A factor's word with the power that stands at a place of a text, if one does.

@@ -11,12 +11,16 @@ use records::answers::check_that;
 use records::refusals::EXPONENT_OUT_OF_RANGE;
 use records::refusals::NESTING_TOO_DEEP;
 use records::refusals::TEXT_MALFORMED;
+use syntax::BRACKET_CLOSES;
+use syntax::BRACKET_OPENS;
+use syntax::GROUP_CLOSES;
+use syntax::GROUP_OPENS;
 
 // The most bytes of a text.
 const LONGEST_TEXT: usize = 256;
 
 // How deep a text may nest.
-const DEEPEST: usize = 8;
+pub const DEEPEST: usize = 8;
 
 // How large an exponent may be, with a minus sign or without.
 const LARGEST: usize = 63;
@@ -67,17 +71,21 @@ fn room_after(b: u8, room: usize) -> usize
     if opens {
         return room - 1;
     }
-    if b == 41 {
+    if b == GROUP_CLOSES {
         return room + 1;
     }
-    if b == 93 { room + 1 } else { room }
+    if b == BRACKET_CLOSES { room + 1 } else { room }
 }
 
 // Whether a byte opens a group or a bracket.
 fn opens(b: u8) -> bool
     ensures { λ r. ⌜ r ≡ isOpening b ⌝ }
 {
-    if b == 40 { true } else { b == 91 }
+    if b == GROUP_OPENS {
+        true
+    } else {
+        b == BRACKET_OPENS
+    }
 }
 
 // Refusal 18: at the caret of the first exponent out of range.

@@ -3,10 +3,8 @@ ghost use Prim.Native.Nat.{_-_, _≤_};
 ghost use mathlib.Core.Path.{_≡_};
 ghost use Rattle.syntax.specs.Trees.{isDigit};
 ghost use Rattle.scanning.specs.Exponents.{digitsExponent, exponentOf, hasSecondDigit, noExponent};
-
-const CARET: u8 = 94;
-
-const MINUS: u8 = 45;
+use syntax::CARET;
+use syntax::MINUS;
 
 // A power as it is written: whether there is one, its sign and number, and how many bytes it has.
 pub struct Exponent {

@@ -9,6 +9,13 @@ use records::answers::Checked;
 use records::answers::check_that;
 use records::record::is_letter;
 use records::refusals::TEXT_MALFORMED;
+use syntax::BRACKET_CLOSES;
+use syntax::BRACKET_OPENS;
+use syntax::CARET;
+use syntax::COMMA;
+use syntax::GROUP_CLOSES;
+use syntax::GROUP_OPENS;
+use syntax::MINUS;
 use syntax::Mode;
 
 // An open sign by number: a group's, and a bracket's before its comma and after it.
@@ -72,13 +79,13 @@ fn scan_byte(mode: Mode, b: u8, signs: &mut [u8], depth: usize) -> Scanned
     match mode {
         Mode::Ready => scan_product(b, signs, depth),
         Mode::After => {
-            if b == 94 {
+            if b == CARET {
                 return taken(Mode::Caret, depth);
             }
             scan_product(b, signs, depth)
         }
         Mode::Caret => {
-            if b == 45 {
+            if b == MINUS {
                 return taken(Mode::Minus, depth);
             }
             scan_digit(b, depth)
@@ -141,11 +148,11 @@ fn scan_product(b: u8, signs: &mut [u8], depth: usize) -> Scanned
     if letter {
         return taken(Mode::After, depth);
     }
-    if b == 40 {
+    if b == GROUP_OPENS {
         signs[depth] = GROUP;
         return taken(Mode::Ready, depth + 1);
     }
-    if b == 91 {
+    if b == BRACKET_OPENS {
         signs[depth] = FIRST;
         return taken(Mode::Ready, depth + 1);
     }
@@ -177,7 +184,7 @@ fn awaited_byte(sign: u8) -> u8
     ensures { λ r. ⌜ r ≡ awaited (openOf sign) ⌝ }
 {
     if sign == GROUP {
-        return 41;
+        return GROUP_CLOSES;
     }
-    if sign == FIRST { 44 } else { 93 }
+    if sign == FIRST { COMMA } else { BRACKET_CLOSES }
 }

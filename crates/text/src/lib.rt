@@ -16,12 +16,10 @@ use records::record::check_target;
 use records::record::word_length;
 use records::record::write_record;
 use records::refusals::WORD_TOO_LONG;
+use scanning::checks::DEEPEST;
 use scanning::checks::check_text;
 use slots::checks::check_room;
 use writing::write_word;
-
-// How deep a text may nest.
-const DEEPEST: usize = 8;
 
 // The room that write asks for.
 const TEXT_ROOM: usize = 256;

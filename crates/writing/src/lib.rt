@@ -5,10 +5,8 @@ ghost use mathlib.Core.Path.{_≡_};
 ghost use lib.ListN.{drop, getD, length};
 ghost use Rattle.words.specs.Buffers.{written, writtenAt};
 ghost use Rattle.syntax.specs.WordTexts.{numeral, powerText, run, runText, runs, smallOf, textOf};
-
-const CARET: u8 = 94;
-
-const MINUS: u8 = 45;
+use syntax::CARET;
+use syntax::MINUS;
 
 // Writes the text of a word at the beginning of a buffer, and answers its length.
 pub fn write_word(word: &[u8], text: &mut [u8]) -> usize
