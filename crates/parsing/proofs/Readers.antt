@@ -14,7 +14,7 @@ use borrow.Author.Tests.{eq-eqb, ne-eqb, not-false, not-true}
 use Rattle.records.specs.Records.{isLetter}
 use Rattle.syntax.specs.Trees.{Power, Product, Proper, ProperPower, bracket, group, isDigit, letter, nothing, spelled, spelledPower}
 use Rattle.syntax.specs.Within.{NestsWithin, PowerWithin, PowersWithin}
-use Rattle.powers.specs.Bounded.{Sound, commuteOf, joinOf, raiseOf, wordIn}
+use Rattle.powers.specs.Bounded.{Sound, commuteOf, held, joinOf, raiseOf, wordIn}
 use Rattle.scanning.specs.Exponents.{digitsSize, exponentOf}
 use mathlib.Core.Logic.{inl, inr}
 use Rattle.scanning.specs.declared.exponent.Exponent.{Exponent}
@@ -170,14 +170,14 @@ pub record ProductKept (room : ℕ) (text : List ℕ) (word : Word) (at : ℕ) :
   pub readable : Readable room text
   pub onward : (t : Product) (rest : List ℕ) → StartsWith room text t rest → Onward room text word at t rest
 
-pub kept-first : (room : ℕ) (text : List ℕ) (word : Word) → Readable room text → Sound word → wordIn word ≡ some []
-    → ProductKept room text word 0
-kept-first room text word r z e =
+pub kept-first : (room : ℕ) (text letters : List ℕ) → Readable room text → length letters ≡ 128 → ProductKept room text (held letters 0) 0
+unfolding wordIn
+kept-first room text letters r e =
     record {
       inside = omega arith;
-      sound = z;
+      sound = record { whole = e; freely = λ h. refl };
       readable = r;
-      onward = λ t rest h. record { tree = t; starts = h; used = omega arith; same = rw e };
+      onward = λ t rest h. record { tree = t; starts = h; used = omega arith; same = refl };
     }
 
 -- a place of the text, and the byte there

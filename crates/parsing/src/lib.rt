@@ -7,9 +7,8 @@ ghost use Rattle.scanning.specs.Exponents.{exponentOf};
 ghost use Rattle.powers.specs.Bounded.{Sound};
 ghost use Rattle.parsing.specs.Reading.{FactorReads, PowerReads, ProductReads, Readable, startsFactor};
 use powers::Word;
+use powers::append;
 use powers::commute;
-use powers::empty;
-use powers::join;
 use powers::raise;
 use powers::single;
 use records::record::is_letter;
@@ -29,18 +28,21 @@ pub fn product(text: &[u8], room: usize) -> Reading
     ensures sound { λ r. ⌜ Sound (r .word) ⌝ }
     ensures reads { λ r. ⌜ ProductReads room (now (text .entry)) r ⌝ }
 {
-    let mut word = empty();
+    let mut letters = [0u8; 128];
+    let mut length = 0;
     let mut at = 0;
     while at < text.len() {
         let more = starts(text[at]);
         if !more {
+            let word = Word { letters, length };
             return Reading { word, used: at };
         }
         let next = factor(&text[at..], room);
         let second = next.word;
-        word = join(word, second);
+        length = append(&mut letters, length, second);
         at += next.used;
     }
+    let word = Word { letters, length };
     Reading { word, used: at }
 }
 

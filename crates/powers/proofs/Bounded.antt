@@ -1,16 +1,17 @@
 -- Laws of freely reduced words of at most 63 letters as values: the copy of a word that stands in a row, the word that a struct holds, and
 -- the commutators and powers that are written into a row one factor after the other.
 use Prim.Native.Nat.{_+_, _-_, _<_, _≤_, suc, zero, ℕ}
-use mathlib.Core.Bool.{false, not, true}
+use mathlib.Core.Bool.{true}
 use mathlib.Core.List.{List, _++_, append-assoc, append-nil}
 use mathlib.Core.Option.{none, some}
 use mathlib.Core.Path.{_∙_, _≡_, ap, sym}
 use native.Mathlib.Nat.{le-antisymm}
 use native.Mathlib.Numerals.{add-one}
 use native.Mathlib.Omega.{arith}
+use lib.Dec.{leb}
 use lib.ListN.{length, take}
 use lib.Seq.{length-take-le}
-use borrow.Author.Tests.{le-leb, lt-leb, not-false, not-true}
+use borrow.Author.Tests.{le-leb, lt-leb}
 use Rattle.words.specs.Alphabet.{bytes}
 use Rattle.words.specs.Buffers.{written}
 use Rattle.words.specs.Words.{freelyReduce, inverse}
@@ -19,66 +20,84 @@ use Rattle.words.proofs.Buffers.{front-part, front-short, written-take}
 use Rattle.words.proofs.FreeReduction.{freelyReduce-twice}
 use Rattle.words.proofs.Joining.{pushed-freelyReduced, pushed-twice}
 use Rattle.syntax.specs.TreeWords.{commutator, times}
-use Rattle.powers.specs.Bounded.{Sound, joinOf, within, wordIn}
+use Rattle.powers.specs.Bounded.{Sound, held, joinOf, within, wordIn}
 use Rattle.powers.specs.declared.Word.{Word}
+
+-- a word that is too long
+pub long-sound : (letters : List ℕ) → length letters ≡ 128 → Sound (held letters 64)
+long-sound letters e = record { whole = e; freely = λ h. absurd (omega arith) }
 
 -- the freely reduced word at the beginning of a row, and its copy
 module _ (row : List ℕ) (size : ℕ) (inside : size ≤ length row) (freely : freelyReduce bytes (take size row) ≡ take size row) where
-  pub row-too-long : 63 < size → within (take size row) ≡ none
-  unfolding within
-  row-too-long h = rw (freely, length-take-le size row inside, lt-leb size 63 h)
+  pub kept-long : (letters : List ℕ) → 63 < size → wordIn (held letters 64) ≡ within (take size row)
+  unfolding within wordIn
+  kept-long letters h = rw (freely, length-take-le size row inside, lt-leb size 63 h)
 
   module _ (before after : List ℕ) (told : after ≡ written (take (size - 0) row) before) where
     copied : take size after ≡ take size row
     copied = rw (told, front-part row size) (written-take (take size row) before size (length-take-le size row inside))
 
-    pub copied-freelyReduced : freelyReduce bytes (take size after) ≡ take size after
-    copied-freelyReduced = rw copied freely
+    pub kept-sound : length after ≡ 128 → Sound (held after size)
+    kept-sound e = record { whole = e; freely = λ h. rw copied freely }
 
-    pub copied-within : size ≤ 63 → some (take size after) ≡ within (take size row)
-    unfolding within
-    copied-within h = rw (copied, freely, length-take-le size row inside, le-leb size 63 h)
+    pub kept-short : size ≤ 63 → wordIn (held after size) ≡ within (take size row)
+    unfolding within wordIn
+    kept-short h = rw (copied, freely, length-take-le size row inside, le-leb size 63 h)
 
 -- the word that a struct holds
-pub too-long-none : (w : Word) → not (w .fits) ≡ true → wordIn w ≡ none
+pub too-long-none : (w : Word) → 63 < w .length → wordIn w ≡ none
 unfolding wordIn
-too-long-none w e = rw (not-true (w .fits) e)
+too-long-none w h = rw (lt-leb (w .length) 63 h)
 
-pub fits-some : (w : Word) → not (w .fits) ≡ false → wordIn w ≡ some (take (w .length - 0) (w .letters))
+pub fits-some : (w : Word) → w .length ≤ 63 → wordIn w ≡ some (take (w .length - 0) (w .letters))
 unfolding wordIn
-fits-some w e = rw (not-false (w .fits) e, front-part (w .letters) (w .length))
+fits-some w h = rw (le-leb (w .length) 63 h, front-part (w .letters) (w .length))
+
+pub word-freelyReduced : (w : Word) → Sound w → w .length ≤ 63
+    → freelyReduce bytes (take (w .length - 0) (w .letters)) ≡ take (w .length - 0) (w .letters)
+word-freelyReduced w s h = rw (front-part (w .letters) (w .length)) (s .freely h)
 
 -- where it is kept from a row that holds a word freely reduced
 pub freelyReduced-within : (r : Word) (w row : List ℕ) → row ≡ freelyReduce bytes w → wordIn r ≡ within row → wordIn r ≡ within w
 unfolding within
 freelyReduced-within r w row e kept = kept ∙ rw (e, freelyReduce-twice bytes byteLaws w)
 
--- a word put after another in the row of that one
-module _ (u v : Word) (letters : List ℕ) (size : ℕ) (su : Sound u) (sv : Sound v) (same : length letters ≡ length (u .letters))
-    (most : size ≤ u .length + length (take (v .length - 0) (v .letters)))
-    (told : take size letters ≡ freelyReduce bytes (take (u .length) (u .letters) ++ take (v .length - 0) (v .letters))) where
-  joined-length : length (take size letters) ≡ size
-  joined-length = length-take-le size letters (omega (arith, su .within, su .whole, front-short (v .letters) (v .length) 63 (sv .within)))
+-- the word at the beginning of a row
+pub row-freelyReduced : (row : List ℕ) (size : ℕ) → Sound (held row size) → size ≤ 63 → freelyReduce bytes (take size row) ≡ take size row
+row-freelyReduced row size s h = s .freely h
 
-  joined-freelyReduced : freelyReduce bytes (take size letters) ≡ take size letters
-  joined-freelyReduced = pushed-freelyReduced (take (u .length) (u .letters) ++ take (v .length - 0) (v .letters)) letters size told
+pub row-long-sound : (row after : List ℕ) (size : ℕ) → Sound (held row size) → length after ≡ length row → Sound (held after 64)
+row-long-sound row after size s e = long-sound after (e ∙ s .whole)
 
-  module _ (fu : not (u .fits) ≡ false) (fv : not (v .fits) ≡ false) where
-    joined-within : within (take size letters) ≡ joinOf (wordIn u) (wordIn v)
-    unfolding within
-    joined-within = rw (told, fits-some u fu, fits-some v fv, front-part (u .letters) (u .length), freelyReduce-twice bytes byteLaws)
+-- a word put after it
+module _ (row after : List ℕ) (size both : ℕ) (word : Word) (sound : Sound (held row size)) (fits : size ≤ 63) (word-fits : word .length ≤ 63)
+    (same : length after ≡ length row) (most : both ≤ size + length (take (word .length - 0) (word .letters)))
+    (told : take both after ≡ freelyReduce bytes (take size row ++ take (word .length - 0) (word .letters))) where
+  both-length : length (take both after) ≡ both
+  both-length = length-take-le both after (omega (arith, sound .whole, front-short (word .letters) (word .length) 63 word-fits))
 
-    pub joined-long : 63 < size → wordIn (record { letters = letters; length = 0; fits = false }) ≡ joinOf (wordIn u) (wordIn v)
-    unfolding within wordIn
-    joined-long h =
-        let e : within (take size letters) ≡ none = rw (joined-freelyReduced, joined-length, lt-leb size 63 h) in
-        sym e ∙ joined-within
+  both-freelyReduced : freelyReduce bytes (take both after) ≡ take both after
+  both-freelyReduced = pushed-freelyReduced (take size row ++ take (word .length - 0) (word .letters)) after both told
 
-    pub joined-short : size ≤ 63 → wordIn (record { letters = letters; length = size; fits = true }) ≡ joinOf (wordIn u) (wordIn v)
-    unfolding within wordIn
-    joined-short h =
-        let e : within (take size letters) ≡ some (take size letters) = rw (joined-freelyReduced, joined-length, le-leb size 63 h) in
-        sym e ∙ joined-within
+  pub both-sound : (n : ℕ) → n ≡ both → Sound (held after n)
+  both-sound n e = record { whole = same ∙ sound .whole; freely = λ h. rw e both-freelyReduced }
+
+  both-within : within (take both after) ≡ joinOf (wordIn (held row size)) (wordIn word)
+  unfolding within
+  both-within = rw (told, fits-some (held row size) fits, fits-some word word-fits, front-part row size, freelyReduce-twice bytes byteLaws)
+
+  pub both-long : 63 < both → wordIn (held after 64) ≡ joinOf (wordIn (held row size)) (wordIn word)
+  unfolding within wordIn
+  both-long h =
+      let e : within (take both after) ≡ none = rw (both-freelyReduced, both-length, lt-leb both 63 h) in
+      sym e ∙ both-within
+
+  pub both-short : both ≤ 63 → wordIn (held after both) ≡ joinOf (wordIn (held row size)) (wordIn word)
+  unfolding within wordIn
+  both-short h =
+      let e : within (take both after) ≡ some (take both after) = rw (both-freelyReduced, both-length, le-leb both 63 h) in
+      let l : leb both 63 ≡ true = le-leb both 63 h in
+      rw l (sym e ∙ both-within)
 
 -- a commutator, its four factors put into a row in turn
 pub commutator-pushed : (u v r s t x : List ℕ) (a b c d : ℕ) → take a r ≡ freelyReduce bytes (inverse bytes u)

@@ -5,6 +5,7 @@ use mathlib.Core.Path.{_≡_}
 use mathlib.Core.Bool.{Bool, cond}
 use mathlib.Core.Option.{Option, none, some}
 use mathlib.Core.List.{List, _++_}
+use lib.Dec.{leb}
 use lib.ListN.{length, take}
 use Rattle.words.specs.Alphabet.{bytes}
 use Rattle.words.specs.Words.{freelyReduce, signed}
@@ -12,15 +13,18 @@ use Rattle.syntax.specs.TreeWords.{commutator, times}
 use Rattle.syntax.specs.Rules.{short}
 use Rattle.powers.specs.declared.Word.{Word}
 
--- the letters of the struct are those of a freely reduced word
+-- so many letters at the beginning of a row
+abbrev pub held : List ℕ → ℕ → Word
+held row size = record { letters = row; length = size }
+
+-- the letters of the struct are those of a freely reduced word, where it is not too long
 pub record Sound (w : Word) : Type 0 where
-  pub within : w .length ≤ 63
   pub whole : length (w .letters) ≡ 128
-  pub freely : freelyReduce bytes (take (w .length) (w .letters)) ≡ take (w .length) (w .letters)
+  pub freely : w .length ≤ 63 → freelyReduce bytes (take (w .length) (w .letters)) ≡ take (w .length) (w .letters)
 
 -- the word that the struct holds, none where it was too long
 unfoldable pub wordIn : Word → Option (List ℕ)
-wordIn w = cond (w .fits) (some (take (w .length) (w .letters))) none
+wordIn w = cond (leb (w .length) 63) (some (take (w .length) (w .letters))) none
 
 -- a word freely reduced, none where it is too long then
 unfoldable pub within : List ℕ → Option (List ℕ)

@@ -7,28 +7,17 @@ ghost use lib.ListN.{length, take};
 ghost use Rattle.words.specs.Alphabet.{bytes};
 ghost use Rattle.words.specs.Words.{freelyReduce, signed};
 ghost use Rattle.syntax.specs.TreeWords.{commutator, times as copies};
-ghost use Rattle.powers.specs.Bounded.{Sound, commuteOf, joinOf, raiseOf, within, wordIn};
+ghost use Rattle.powers.specs.Bounded.{Sound, commuteOf, held, joinOf, raiseOf, within, wordIn};
 use words::letters::copy;
 use words::product::push_signed;
 
-// A freely reduced word, or the mark that it has more than 63 letters. There is room for another one after it.
+// The length that says that a word has more than 63 letters.
+const TOO_LONG: usize = 64;
+
+// A freely reduced word, with room for another one after it. Where it has more than 63 letters, its length is TOO_LONG.
 pub struct Word {
     pub letters: [u8; 128],
     pub length: usize,
-    pub fits: bool,
-}
-
-// The empty word.
-pub fn empty() -> Word
-    ensures sound { λ r. ⌜ Sound r ⌝ }
-    ensures word { λ r. ⌜ wordIn r ≡ some [] ⌝ }
-{
-    let letters = [0u8; 128];
-    Word {
-        letters,
-        length: 0,
-        fits: true,
-    }
 }
 
 // The word of one letter.
@@ -38,11 +27,7 @@ pub fn single(b: u8) -> Word
 {
     let mut letters = [0u8; 128];
     letters[0] = b;
-    Word {
-        letters,
-        length: 1,
-        fits: true,
-    }
+    Word { letters, length: 1 }
 }
 
 // The freely reduced word at the beginning of a row, where it is short enough.
@@ -56,48 +41,33 @@ fn kept(row: &[u8], size: usize) -> Word
     if size > 63 {
         return Word {
             letters,
-            length: 0,
-            fits: false,
+            length: TOO_LONG,
         };
     }
     copy(&row[0..size], &mut letters);
     Word {
         letters,
         length: size,
-        fits: true,
     }
 }
 
-// One word after the other.
-pub fn join(u: Word, v: Word) -> Word
-    requires { ⌜ Sound u ⌝ }
-    requires { ⌜ Sound v ⌝ }
-    ensures sound { λ r. ⌜ Sound r ⌝ }
-    ensures word { λ r. ⌜ wordIn r ≡ joinOf (wordIn u) (wordIn v) ⌝ }
+// Puts a word after the one of so many letters at the beginning of a row, and answers the length of both.
+pub fn append(row: &mut [u8], used: usize, word: Word) -> usize
+    requires { ⌜ Sound (held (now row) used) ⌝ }
+    requires { ⌜ Sound word ⌝ }
+    ensures sound { λ r. ⌜ Sound (held (now (row .exit)) r) ⌝ }
+    ensures word { λ r. ⌜ wordIn (held (now (row .exit)) r) ≡ joinOf (wordIn (held (now (row .entry)) used)) (wordIn word) ⌝ }
 {
-    if !u.fits {
-        return u;
+    if used > 63 {
+        return TOO_LONG;
     }
-    if !v.fits {
-        return v;
+    let m = word.length;
+    if m > 63 {
+        return TOO_LONG;
     }
-    let n = u.length;
-    let m = v.length;
-    let second = v.letters;
-    let mut letters = u.letters;
-    let size = push_signed(&mut letters, n, false, &second[0..m]);
-    if size > 63 {
-        return Word {
-            letters,
-            length: 0,
-            fits: false,
-        };
-    }
-    Word {
-        letters,
-        length: size,
-        fits: true,
-    }
+    let letters = word.letters;
+    let both = push_signed(row, used, false, &letters[0..m]);
+    if both > 63 { TOO_LONG } else { both }
 }
 
 // The inverse of u, the inverse of v, u, v.
@@ -107,14 +77,14 @@ pub fn commute(u: Word, v: Word) -> Word
     ensures sound { λ r. ⌜ Sound r ⌝ }
     ensures word { λ r. ⌜ wordIn r ≡ commuteOf (wordIn u) (wordIn v) ⌝ }
 {
-    if !u.fits {
+    let n = u.length;
+    if n > 63 {
         return u;
     }
-    if !v.fits {
+    let m = v.length;
+    if m > 63 {
         return v;
     }
-    let n = u.length;
-    let m = v.length;
     let first = u.letters;
     let second = v.letters;
     let mut row = [0u8; 256];
@@ -143,10 +113,10 @@ pub fn raise(word: Word, minus: bool, times: usize) -> Word
     ensures sound { λ r. ⌜ Sound r ⌝ }
     ensures word { λ r. ⌜ wordIn r ≡ raiseOf minus times (wordIn word) ⌝ }
 {
-    if !word.fits {
+    let n = word.length;
+    if n > 63 {
         return word;
     }
-    let n = word.length;
     let letters = word.letters;
     let mut row = [0u8; 4096];
     let size = repeat(&letters[0..n], minus, times, &mut row);

@@ -6,7 +6,9 @@ use mathlib.Core.Logic.{inl, inr}
 use mathlib.Core.Option.{some}
 use mathlib.Core.List.{List, [], _++_, append-nil}
 use native.Mathlib.Omega.{arith}
+use lib.Dec.{leb}
 use lib.ListN.{drop, length, take}
+use borrow.Author.Tests.{leb-true}
 use Rattle.words.specs.Buffers.{written}
 use Rattle.words.proofs.Buffers.{front-part, front-short}
 use Rattle.systems.proofs.Logic.{bool-cases}
@@ -43,9 +45,9 @@ starts-whole text e =
     }
 
 -- the word that a struct holds
-some-word : (w : Word) (b : Bool) (v : List ℕ) → wordIn w ≡ onlyIf b v → w .fits ≡ b
+some-word : (w : Word) (b : Bool) (v : List ℕ) → wordIn w ≡ onlyIf b v → leb (w .length) 63 ≡ b
 unfolding wordIn
-some-word w b v e = elim (bool-cases (w .fits)) [
+some-word w b v e = elim (bool-cases (leb (w .length) 63)) [
   | inl f ↦ elim (bool-cases b) [
     | inl g ↦ f ∙ sym g
     | inr g ↦ let z : _≡_ {A = ℕ} 0 1 = cc (rw (f, g) at e) in absurd (omega arith)
@@ -56,7 +58,7 @@ some-word w b v e = elim (bool-cases (w .fits)) [
   ]
 ]
 
-that-word : (w : Word) (b : Bool) (v : List ℕ) → wordIn w ≡ onlyIf b v → w .fits ≡ true → take (w .length) (w .letters) ≡ v
+that-word : (w : Word) (b : Bool) (v : List ℕ) → wordIn w ≡ onlyIf b v → leb (w .length) 63 ≡ true → take (w .length) (w .letters) ≡ v
 unfolding wordIn
 that-word w b v e f =
     let g : b ≡ true = sym (some-word w b v e) ∙ f in
@@ -86,26 +88,31 @@ module _ (text word : List ℕ) {x : Checked} (tests : x ≡ readTests text (len
       found-word = reads (treeOf text) [] (starts-whole text passed-text) .word ∙ read-word (treeOf text)
 
       -- refusal 12
-      pub rules-told : {y : Checked} → y ≡ must (found .word .fits) 12 0 → y ≡ readRules text (length word)
+      pub rules-told : {y : Checked} → y ≡ must (leb (found .word .length) 63) 12 0 → y ≡ readRules text (length word)
       unfolding readRules
       rules-told e =
           then-fine _ _ tests passed (e ∙ ap (λ (b : Bool). must b 12 0) (some-word (found .word) (fits (treeOf text)) (textWord text) found-word))
 
       -- the record of the word at the beginning of the buffer, and the bytes after it as they were
-      pub word-written : {y : Checked} {z : List ℕ} → Sound (found .word) → y ≡ must (found .word .fits) 12 0 → y ≡ Fine
+      pub word-written : {y : Checked} {z : List ℕ} → y ≡ must (leb (found .word .length) 63) 12 0 → y ≡ Fine
           → z ≡ recordOf (take (found .word .length - 0) (found .word .letters)) → z ++ drop 64 word ≡ written (recordOf (textWord text)) word
-      word-written {y} {z} s e h f =
+      word-written {y} {z} e h f =
           let w : Word = found .word in
-          let t : w .fits ≡ true = must-passed (w .fits) 12 0 e h in
+          let t : leb (w .length) 63 ≡ true = must-passed (leb (w .length) 63) 12 0 e h in
           let word-is : take (w .length - 0) (w .letters) ≡ textWord text =
           front-part (w .letters) (w .length) ∙ that-word w (fits (treeOf text)) (textWord text) found-word t in
           let short : length (textWord text) ≤ 63 =
-          omega (arith, ap length (sym word-is), front-short (w .letters) (w .length) 63 (s .within)) in
+          omega (arith, ap length (sym word-is), front-short (w .letters) (w .length) 63 (leb-true (w .length) 63 t)) in
           ap (λ (l : List ℕ). l ++ drop 64 word) (f ∙ ap recordOf word-is)
           ∙ ap (λ (k : ℕ). recordOf (textWord text) ++ drop k word) (sym (record-length (textWord text) short))
 
-pub piece-short : (w : Word) → Sound w → length (take (w .length - 0) (w .letters)) ≤ 63
-piece-short w s = front-short (w .letters) (w .length) 63 (s .within)
+-- a word that passed refusal 12
+module _ (w : Word) {y : Checked} (told : y ≡ must (leb (w .length) 63) 12 0) (passed : y ≡ Fine) where
+  word-short : w .length ≤ 63
+  word-short = leb-true (w .length) 63 (must-passed (leb (w .length) 63) 12 0 told passed)
 
-pub piece-inside : (w : Word) → Sound w → w .length ≤ length (w .letters)
-piece-inside w s = omega (arith, s .within, s .whole)
+  pub piece-short : length (take (w .length - 0) (w .letters)) ≤ 63
+  piece-short = front-short (w .letters) (w .length) 63 word-short
+
+  pub piece-inside : Sound w → w .length ≤ length (w .letters)
+  piece-inside s = omega (arith, word-short, s .whole)

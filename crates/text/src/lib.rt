@@ -50,12 +50,12 @@ fn read_checked(text: &[u8], word: &mut [u8]) -> Checked
         return checked;
     };
     let found = product(text, DEEPEST);
-    let fitted = check_that(found.word.fits, WORD_TOO_LONG, 0);
+    let letters = found.word.letters;
+    let count = found.word.length;
+    let fitted = check_that(count <= 63, WORD_TOO_LONG, 0);
     let Checked::Fine = fitted else {
         return fitted;
     };
-    let letters = found.word.letters;
-    let count = found.word.length;
     write_record(&letters[0..count], &mut word[0..64]);
     fitted
 }

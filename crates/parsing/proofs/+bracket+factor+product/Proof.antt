@@ -1,9 +1,10 @@
 -- The proof of the cycle of calls: the product's calls the factor's at a part that may be the whole text, the factor's hands a bracket on
 -- with the whole text, and both of these call the product's at a shorter part.
 use Prim.Native.Nat.{_*_, _+_, _-_}
-use lib.ListN.{length}
+use lib.ListN.{length as size}
 use Rattle.parsing.proofs.Readers.{ProductKept, bracket-before-end, bracket-calls, bracket-calls-again, bracket-end, bracket-middle, bracket-power, bracket-readable, bracket-readable-too, bracket-room, factor-calls, factor-full, factor-hands-on, factor-inside, factor-less, factor-readable, factor-starts, group-end, group-power, group-readable, group-room, kept-again, kept-first, letter-power, opens-full, product-calls, read-all, read-bracket, read-end, read-group, read-letter, size-fits}
 use borrow.Author.Needs.{needs}
+use Rattle.powers.specs.Bounded.{held}
 use Prim.Native.Nat.{ℕ, _<_}
 use borrow.Fn.Kinds.{In}
 use borrow.Fn.PlainCycle.{Measures, is, falls, and}
@@ -18,21 +19,20 @@ use Rattle.parsing.proofs.product.Kinds as product-kinds
 use Rattle.parsing.proofs.+bracket+factor+product.Lts-product as product-lts
 use Rattle.parsing.proofs.powered.Reads as powered-reads
 use Rattle.parsing.proofs.starts.Reads as starts-reads
+use Rattle.powers.proofs.append.Reads as append-reads
 use Rattle.powers.proofs.commute.Reads as commute-reads
-use Rattle.powers.proofs.empty.Reads as empty-reads
-use Rattle.powers.proofs.join.Reads as join-reads
 use Rattle.powers.proofs.single.Reads as single-reads
 use Rattle.parsing.proofs.+bracket+factor+product.{statement}
 use Rattle.parsing.proofs.+bracket+factor+product.Tie.{close}
 
 abbrev μ-bracket : Measures 1 bracket-kinds.ps ℕ
-μ-bracket κs a = length (a .0 .now) * 3
+μ-bracket κs a = size (a .0 .now) * 3
 
 abbrev μ-factor : Measures 1 factor-kinds.ps ℕ
-μ-factor κs a = length (a .0 .now) * 3 + 1
+μ-factor κs a = size (a .0 .now) * 3 + 1
 
 abbrev μ-product : Measures 1 product-kinds.ps ℕ
-μ-product κs a = length (a .0 .now) * 3 + 2
+μ-product κs a = size (a .0 .now) * 3 + 2
 
 abbrev bracket-at : ℕ → In 1 bracket-kinds.ps
 bracket-at t = and 1 bracket-kinds.ps (is 1 bracket-kinds.ps μ-bracket t) bracket.Pre
@@ -52,7 +52,6 @@ product-at t = and 1 product-kinds.ps (is 1 product-kinds.ps μ-product t) produ
 abbrev product-below : ℕ → In 1 product-kinds.ps
 product-below t = and 1 product-kinds.ps (falls 1 product-kinds.ps _<_ μ-product t) product.Pre
 
--- src/lib.rt:73:25
 bracket-sub-product : (t : ℕ) → bracket-lts.Need-sub-product (
   product-below t,
   product.Post,
@@ -63,7 +62,6 @@ bracket-sub-product : (t : ℕ) → bracket-lts.Need-sub-product (
 ) (bracket-at t) bracket.Post
 bracket-sub-product t c = search (opens-full, needs)
 
--- src/lib.rt:73:25
 bracket-part-product-start : (t : ℕ) → bracket-lts.Need-part-product-start (
   product-below t,
   product.Post,
@@ -74,7 +72,6 @@ bracket-part-product-start : (t : ℕ) → bracket-lts.Need-part-product-start (
 ) (bracket-at t) bracket.Post
 bracket-part-product-start t c = search (opens-full, needs)
 
--- src/lib.rt:73:25
 bracket-part-product-end : (t : ℕ) → bracket-lts.Need-part-product-end (
   product-below t,
   product.Post,
@@ -85,7 +82,6 @@ bracket-part-product-end : (t : ℕ) → bracket-lts.Need-part-product-end (
 ) (bracket-at t) bracket.Post
 bracket-part-product-end t c = search needs
 
--- src/lib.rt:73:37
 bracket-sub-product-2 : (t : ℕ) → bracket-lts.Need-sub-product-2 (
   product-below t,
   product.Post,
@@ -96,7 +92,6 @@ bracket-sub-product-2 : (t : ℕ) → bracket-lts.Need-sub-product-2 (
 ) (bracket-at t) bracket.Post
 bracket-sub-product-2 t c = search (bracket-room, needs)
 
--- src/lib.rt:73:9
 bracket-product-requires : (t : ℕ) → bracket-lts.Need-product-requires (
   product-below t,
   product.Post,
@@ -107,7 +102,6 @@ bracket-product-requires : (t : ℕ) → bracket-lts.Need-product-requires (
 ) (bracket-at t) bracket.Post
 bracket-product-requires t c κs = (search (bracket-calls, needs), search (bracket-readable, needs))
 
--- src/lib.rt:74:18
 bracket-add-middle : (t : ℕ) → bracket-lts.Need-add-middle (
   product-below t,
   product.Post,
@@ -118,7 +112,6 @@ bracket-add-middle : (t : ℕ) → bracket-lts.Need-add-middle (
 ) (bracket-at t) bracket.Post
 bracket-add-middle t c = search (size-fits, bracket-middle, needs)
 
--- src/lib.rt:75:26
 bracket-sub-product-3 : (t : ℕ) → bracket-lts.Need-sub-product-3 (
   product-below t,
   product.Post,
@@ -129,7 +122,6 @@ bracket-sub-product-3 : (t : ℕ) → bracket-lts.Need-sub-product-3 (
 ) (bracket-at t) bracket.Post
 bracket-sub-product-3 t c = search (bracket-middle, needs)
 
--- src/lib.rt:75:26
 bracket-part-product-start-2 : (t : ℕ) → bracket-lts.Need-part-product-start-2 (
   product-below t,
   product.Post,
@@ -140,7 +132,6 @@ bracket-part-product-start-2 : (t : ℕ) → bracket-lts.Need-part-product-start
 ) (bracket-at t) bracket.Post
 bracket-part-product-start-2 t c = search (bracket-middle, needs)
 
--- src/lib.rt:75:26
 bracket-part-product-end-2 : (t : ℕ) → bracket-lts.Need-part-product-end-2 (
   product-below t,
   product.Post,
@@ -151,7 +142,6 @@ bracket-part-product-end-2 : (t : ℕ) → bracket-lts.Need-part-product-end-2 (
 ) (bracket-at t) bracket.Post
 bracket-part-product-end-2 t c = search needs
 
--- src/lib.rt:75:43
 bracket-sub-product-4 : (t : ℕ) → bracket-lts.Need-sub-product-4 (
   product-below t,
   product.Post,
@@ -162,7 +152,6 @@ bracket-sub-product-4 : (t : ℕ) → bracket-lts.Need-sub-product-4 (
 ) (bracket-at t) bracket.Post
 bracket-sub-product-4 t c = search (bracket-room, needs)
 
--- src/lib.rt:75:9
 bracket-product-requires-2 : (t : ℕ) → bracket-lts.Need-product-requires-2 (
   product-below t,
   product.Post,
@@ -173,7 +162,6 @@ bracket-product-requires-2 : (t : ℕ) → bracket-lts.Need-product-requires-2 (
 ) (bracket-at t) bracket.Post
 bracket-product-requires-2 t c κs = (search (bracket-calls-again, needs), search (bracket-readable-too, needs))
 
--- src/lib.rt:76:15
 bracket-add-end : (t : ℕ) → bracket-lts.Need-add-end (
   product-below t,
   product.Post,
@@ -184,7 +172,6 @@ bracket-add-end : (t : ℕ) → bracket-lts.Need-add-end (
 ) (bracket-at t) bracket.Post
 bracket-add-end t c = search (size-fits, bracket-before-end, needs)
 
--- src/lib.rt:76:15
 bracket-add-end-2 : (t : ℕ) → bracket-lts.Need-add-end-2 (
   product-below t,
   product.Post,
@@ -195,7 +182,6 @@ bracket-add-end-2 : (t : ℕ) → bracket-lts.Need-add-end-2 (
 ) (bracket-at t) bracket.Post
 bracket-add-end-2 t c = search (size-fits, bracket-end, needs)
 
--- src/lib.rt:79:9
 bracket-commute-requires : (t : ℕ) → bracket-lts.Need-commute-requires (
   product-below t,
   product.Post,
@@ -206,7 +192,6 @@ bracket-commute-requires : (t : ℕ) → bracket-lts.Need-commute-requires (
 ) (bracket-at t) bracket.Post
 bracket-commute-requires t c κs = search needs
 
--- src/lib.rt:80:5
 bracket-powered-requires : (t : ℕ) → bracket-lts.Need-powered-requires (
   product-below t,
   product.Post,
@@ -217,7 +202,6 @@ bracket-powered-requires : (t : ℕ) → bracket-lts.Need-powered-requires (
 ) (bracket-at t) bracket.Post
 bracket-powered-requires t c κs = (search needs, (search (bracket-end, needs), search (bracket-power, needs)))
 
--- src/lib.rt:67:1
 bracket-returns : (t : ℕ) → bracket-lts.Need-returns (
   product-below t,
   product.Post,
@@ -228,7 +212,6 @@ bracket-returns : (t : ℕ) → bracket-lts.Need-returns (
 ) (bracket-at t) bracket.Post
 bracket-returns t c = (search needs, search (read-bracket, c .before .before .before .before .before .before .before .before .before .pre .1 .1, needs))
 
--- src/lib.rt:52:13
 factor-shared-slice-read-b : (t : ℕ) → factor-lts.Need-shared-slice-read-b (
   bracket-below t,
   bracket.Post,
@@ -241,7 +224,6 @@ factor-shared-slice-read-b : (t : ℕ) → factor-lts.Need-shared-slice-read-b (
 ) (factor-at t) factor.Post
 factor-shared-slice-read-b t c = search needs
 
--- src/lib.rt:54:9
 factor-bracket-requires : (t : ℕ) → factor-lts.Need-bracket-requires (
   bracket-below t,
   bracket.Post,
@@ -254,7 +236,6 @@ factor-bracket-requires : (t : ℕ) → factor-lts.Need-bracket-requires (
 ) (factor-at t) factor.Post
 factor-bracket-requires t c κs = (search (factor-hands-on, needs), search needs)
 
--- src/lib.rt:54:9
 factor-returns : (t : ℕ) → factor-lts.Need-returns (
   bracket-below t,
   bracket.Post,
@@ -267,7 +248,6 @@ factor-returns : (t : ℕ) → factor-lts.Need-returns (
 ) (factor-at t) factor.Post
 factor-returns t c = search needs
 
--- src/lib.rt:57:29
 factor-sub-product : (t : ℕ) → factor-lts.Need-sub-product (
   bracket-below t,
   bracket.Post,
@@ -280,7 +260,6 @@ factor-sub-product : (t : ℕ) → factor-lts.Need-sub-product (
 ) (factor-at t) factor.Post
 factor-sub-product t c = search needs
 
--- src/lib.rt:57:29
 factor-part-product-start : (t : ℕ) → factor-lts.Need-part-product-start (
   bracket-below t,
   bracket.Post,
@@ -293,7 +272,6 @@ factor-part-product-start : (t : ℕ) → factor-lts.Need-part-product-start (
 ) (factor-at t) factor.Post
 factor-part-product-start t c = search needs
 
--- src/lib.rt:57:29
 factor-part-product-end : (t : ℕ) → factor-lts.Need-part-product-end (
   bracket-below t,
   bracket.Post,
@@ -306,7 +284,6 @@ factor-part-product-end : (t : ℕ) → factor-lts.Need-part-product-end (
 ) (factor-at t) factor.Post
 factor-part-product-end t c = search needs
 
--- src/lib.rt:57:41
 factor-sub-product-2 : (t : ℕ) → factor-lts.Need-sub-product-2 (
   bracket-below t,
   bracket.Post,
@@ -319,7 +296,6 @@ factor-sub-product-2 : (t : ℕ) → factor-lts.Need-sub-product-2 (
 ) (factor-at t) factor.Post
 factor-sub-product-2 t c = search (group-room, needs)
 
--- src/lib.rt:57:13
 factor-product-requires : (t : ℕ) → factor-lts.Need-product-requires (
   bracket-below t,
   bracket.Post,
@@ -332,7 +308,6 @@ factor-product-requires : (t : ℕ) → factor-lts.Need-product-requires (
 ) (factor-at t) factor.Post
 factor-product-requires t c κs = (search (factor-calls, needs), search (group-readable, needs))
 
--- src/lib.rt:59:19
 factor-add-end : (t : ℕ) → factor-lts.Need-add-end (
   bracket-below t,
   bracket.Post,
@@ -345,7 +320,6 @@ factor-add-end : (t : ℕ) → factor-lts.Need-add-end (
 ) (factor-at t) factor.Post
 factor-add-end t c = search (size-fits, group-end, needs)
 
--- src/lib.rt:60:9
 factor-powered-requires : (t : ℕ) → factor-lts.Need-powered-requires (
   bracket-below t,
   bracket.Post,
@@ -358,7 +332,6 @@ factor-powered-requires : (t : ℕ) → factor-lts.Need-powered-requires (
 ) (factor-at t) factor.Post
 factor-powered-requires t c κs = search (group-end, group-power, needs)
 
--- src/lib.rt:60:9
 factor-returns-2 : (t : ℕ) → factor-lts.Need-returns-2 (
   bracket-below t,
   bracket.Post,
@@ -371,7 +344,6 @@ factor-returns-2 : (t : ℕ) → factor-lts.Need-returns-2 (
 ) (factor-at t) factor.Post
 factor-returns-2 t c = search (read-group, needs)
 
--- src/lib.rt:62:9
 factor-single-requires : (t : ℕ) → factor-lts.Need-single-requires (
   bracket-below t,
   bracket.Post,
@@ -384,7 +356,6 @@ factor-single-requires : (t : ℕ) → factor-lts.Need-single-requires (
 ) (factor-at t) factor.Post
 factor-single-requires t c κs = search needs
 
--- src/lib.rt:63:5
 factor-powered-requires-2 : (t : ℕ) → factor-lts.Need-powered-requires-2 (
   bracket-below t,
   bracket.Post,
@@ -397,7 +368,6 @@ factor-powered-requires-2 : (t : ℕ) → factor-lts.Need-powered-requires-2 (
 ) (factor-at t) factor.Post
 factor-powered-requires-2 t c κs = search (letter-power, needs)
 
--- src/lib.rt:46:1
 factor-returns-3 : (t : ℕ) → factor-lts.Need-returns-3 (
   bracket-below t,
   bracket.Post,
@@ -411,190 +381,148 @@ factor-returns-3 : (t : ℕ) → factor-lts.Need-returns-3 (
 factor-returns-3 t c = search (read-letter, needs)
 
 abbrev product-Inv-loop : product-lts.InvT-loop
-product-Inv-loop text room word₀ at₀ word at = ProductKept room text word at
+product-Inv-loop text room letters₀ length₀ at₀ letters length at = ProductKept room text (held letters length) at
 
 abbrev product-μ-loop : product-lts.MeasureT-loop
-product-μ-loop text room word₀ at₀ word at = length text - at
+product-μ-loop text room letters₀ length₀ at₀ letters length at = size text - at
 
--- src/lib.rt:30:9
-product-empty-requires : (t : ℕ) → product-lts.Need-empty-requires (
-  empty-reads.Asked,
-  empty-reads.Learnt,
-  starts-reads.Asked,
-  starts-reads.Learnt,
-  factor-below t,
-  factor.Post,
-  join-reads.Asked,
-  join-reads.Learnt,
-) (product-at t) product.Post product-Inv-loop product-μ-loop
-product-empty-requires t c κs = search needs
-
--- src/lib.rt:32:5
 product-loop-holds : (t : ℕ) → product-lts.Need-loop-holds (
-  empty-reads.Asked,
-  empty-reads.Learnt,
   starts-reads.Asked,
   starts-reads.Learnt,
   factor-below t,
   factor.Post,
-  join-reads.Asked,
-  join-reads.Learnt,
+  append-reads.Asked,
+  append-reads.Learnt,
 ) (product-at t) product.Post product-Inv-loop product-μ-loop
 product-loop-holds t c = search (kept-first, needs)
 
--- src/lib.rt:33:27
 product-shared-slice-read-starts : (t : ℕ) → product-lts.Need-shared-slice-read-starts (
-  empty-reads.Asked,
-  empty-reads.Learnt,
   starts-reads.Asked,
   starts-reads.Learnt,
   factor-below t,
   factor.Post,
-  join-reads.Asked,
-  join-reads.Learnt,
+  append-reads.Asked,
+  append-reads.Learnt,
 ) (product-at t) product.Post product-Inv-loop product-μ-loop
 product-shared-slice-read-starts t c = search needs
 
--- src/lib.rt:33:13
 product-starts-requires : (t : ℕ) → product-lts.Need-starts-requires (
-  empty-reads.Asked,
-  empty-reads.Learnt,
   starts-reads.Asked,
   starts-reads.Learnt,
   factor-below t,
   factor.Post,
-  join-reads.Asked,
-  join-reads.Learnt,
+  append-reads.Asked,
+  append-reads.Learnt,
 ) (product-at t) product.Post product-Inv-loop product-μ-loop
 product-starts-requires t c κs = search needs
 
--- src/lib.rt:35:13
 product-returns : (t : ℕ) → product-lts.Need-returns (
-  empty-reads.Asked,
-  empty-reads.Learnt,
   starts-reads.Asked,
   starts-reads.Learnt,
   factor-below t,
   factor.Post,
-  join-reads.Asked,
-  join-reads.Learnt,
+  append-reads.Asked,
+  append-reads.Learnt,
 ) (product-at t) product.Post product-Inv-loop product-μ-loop
 product-returns t c = search (read-all, needs)
 
--- src/lib.rt:37:27
 product-sub-factor : (t : ℕ) → product-lts.Need-sub-factor (
-  empty-reads.Asked,
-  empty-reads.Learnt,
   starts-reads.Asked,
   starts-reads.Learnt,
   factor-below t,
   factor.Post,
-  join-reads.Asked,
-  join-reads.Learnt,
+  append-reads.Asked,
+  append-reads.Learnt,
 ) (product-at t) product.Post product-Inv-loop product-μ-loop
 product-sub-factor t c = search needs
 
--- src/lib.rt:37:27
 product-part-factor-start : (t : ℕ) → product-lts.Need-part-factor-start (
-  empty-reads.Asked,
-  empty-reads.Learnt,
   starts-reads.Asked,
   starts-reads.Learnt,
   factor-below t,
   factor.Post,
-  join-reads.Asked,
-  join-reads.Learnt,
+  append-reads.Asked,
+  append-reads.Learnt,
 ) (product-at t) product.Post product-Inv-loop product-μ-loop
 product-part-factor-start t c = search needs
 
--- src/lib.rt:37:27
 product-part-factor-end : (t : ℕ) → product-lts.Need-part-factor-end (
-  empty-reads.Asked,
-  empty-reads.Learnt,
   starts-reads.Asked,
   starts-reads.Learnt,
   factor-below t,
   factor.Post,
-  join-reads.Asked,
-  join-reads.Learnt,
+  append-reads.Asked,
+  append-reads.Learnt,
 ) (product-at t) product.Post product-Inv-loop product-μ-loop
 product-part-factor-end t c = search needs
 
--- src/lib.rt:37:13
 product-factor-requires : (t : ℕ) → product-lts.Need-factor-requires (
-  empty-reads.Asked,
-  empty-reads.Learnt,
   starts-reads.Asked,
   starts-reads.Learnt,
   factor-below t,
   factor.Post,
-  join-reads.Asked,
-  join-reads.Learnt,
+  append-reads.Asked,
+  append-reads.Learnt,
 ) (product-at t) product.Post product-Inv-loop product-μ-loop
 product-factor-requires t c κs = (search (product-calls, needs), search (factor-readable, factor-full, factor-starts, needs))
 
--- src/lib.rt:39:9
-product-join-requires : (t : ℕ) → product-lts.Need-join-requires (
-  empty-reads.Asked,
-  empty-reads.Learnt,
+product-slice-aggregate-append : (t : ℕ) → product-lts.Need-slice-aggregate-append (
   starts-reads.Asked,
   starts-reads.Learnt,
   factor-below t,
   factor.Post,
-  join-reads.Asked,
-  join-reads.Learnt,
+  append-reads.Asked,
+  append-reads.Learnt,
 ) (product-at t) product.Post product-Inv-loop product-μ-loop
-product-join-requires t c κs = search needs
+product-slice-aggregate-append t c = search needs
 
--- src/lib.rt:40:9
-product-add-at : (t : ℕ) → product-lts.Need-add-at (
-  empty-reads.Asked,
-  empty-reads.Learnt,
+product-append-requires : (t : ℕ) → product-lts.Need-append-requires (
   starts-reads.Asked,
   starts-reads.Learnt,
   factor-below t,
   factor.Post,
-  join-reads.Asked,
-  join-reads.Learnt,
+  append-reads.Asked,
+  append-reads.Learnt,
+) (product-at t) product.Post product-Inv-loop product-μ-loop
+product-append-requires t c κs = search needs
+
+product-add-at : (t : ℕ) → product-lts.Need-add-at (
+  starts-reads.Asked,
+  starts-reads.Learnt,
+  factor-below t,
+  factor.Post,
+  append-reads.Asked,
+  append-reads.Learnt,
 ) (product-at t) product.Post product-Inv-loop product-μ-loop
 product-add-at t c = search (size-fits, factor-inside, needs)
 
--- src/lib.rt:32:5
 product-loop-less : (t : ℕ) → product-lts.Need-loop-less (
-  empty-reads.Asked,
-  empty-reads.Learnt,
   starts-reads.Asked,
   starts-reads.Learnt,
   factor-below t,
   factor.Post,
-  join-reads.Asked,
-  join-reads.Learnt,
+  append-reads.Asked,
+  append-reads.Learnt,
 ) (product-at t) product.Post product-Inv-loop product-μ-loop
 product-loop-less t c = search (factor-less, needs)
 
--- src/lib.rt:32:5
 product-loop-again : (t : ℕ) → product-lts.Need-loop-again (
-  empty-reads.Asked,
-  empty-reads.Learnt,
   starts-reads.Asked,
   starts-reads.Learnt,
   factor-below t,
   factor.Post,
-  join-reads.Asked,
-  join-reads.Learnt,
+  append-reads.Asked,
+  append-reads.Learnt,
 ) (product-at t) product.Post product-Inv-loop product-μ-loop
 product-loop-again t c = search (kept-again, needs)
 
--- src/lib.rt:25:1
 product-returns-2 : (t : ℕ) → product-lts.Need-returns-2 (
-  empty-reads.Asked,
-  empty-reads.Learnt,
   starts-reads.Asked,
   starts-reads.Learnt,
   factor-below t,
   factor.Post,
-  join-reads.Asked,
-  join-reads.Learnt,
+  append-reads.Asked,
+  append-reads.Learnt,
 ) (product-at t) product.Post product-Inv-loop product-μ-loop
 product-returns-2 t c = search (read-end, needs)
 
@@ -652,20 +580,17 @@ pub +bracket+factor+product-spec : {M : Type 1} → statement M
     (factor-powered-requires-2 t)
     (factor-returns-3 t))
     λ t. product-lts.spec (
-      empty-reads.Asked,
-      empty-reads.Learnt,
       starts-reads.Asked,
       starts-reads.Learnt,
       factor-below t,
       factor.Post,
-      join-reads.Asked,
-      join-reads.Learnt,
+      append-reads.Asked,
+      append-reads.Learnt,
     )
     (product-at t)
     product.Post
     product-Inv-loop
     product-μ-loop
-    (product-empty-requires t)
     (product-loop-holds t)
     (product-shared-slice-read-starts t)
     (product-starts-requires t)
@@ -674,7 +599,8 @@ pub +bracket+factor+product-spec : {M : Type 1} → statement M
     (product-part-factor-start t)
     (product-part-factor-end t)
     (product-factor-requires t)
-    (product-join-requires t)
+    (product-slice-aggregate-append t)
+    (product-append-requires t)
     (product-add-at t)
     (product-loop-less t)
     (product-loop-again t)

@@ -2,7 +2,7 @@
 use borrow.Author.Needs.{needs}
 use Rattle.words.proofs.Buffers.{front-part, front-short}
 use Rattle.words.proofs.Joining.{pushed-freelyReduced}
-use Rattle.powers.proofs.Bounded.{fits-some, freelyReduced-within, too-long-none}
+use Rattle.powers.proofs.Bounded.{fits-some, freelyReduced-within, too-long-none, word-freelyReduced}
 use Rattle.powers.proofs.commute.Statement.{statement}
 use Rattle.powers.proofs.commute.Tie as tie
 
@@ -34,7 +34,7 @@ slice-aggregate-commute-letters : tie.Need-slice-aggregate-commute-letters
 slice-aggregate-commute-letters c = search needs
 
 commute-letters-requires : tie.Need-commute-letters-requires
-commute-letters-requires c κs = (search (front-short, needs), (search (front-part, needs), search (front-part, needs)))
+commute-letters-requires c κs = (search (front-short, needs), (search (word-freelyReduced, needs), search (word-freelyReduced, needs)))
 
 slice-aggregate-kept : tie.Need-slice-aggregate-kept
 slice-aggregate-kept c = search needs

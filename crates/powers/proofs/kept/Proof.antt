@@ -1,14 +1,12 @@
 -- `powers::kept` meets its contract.
 use Prim.Native.Nat.{_<_}
 use borrow.Author.Needs.{needs}
-use Rattle.powers.specs.Bounded.{wordIn}
-use Rattle.powers.proofs.Bounded.{copied-freelyReduced, copied-within, row-too-long}
+use Rattle.powers.proofs.Bounded.{kept-long, kept-short, kept-sound, long-sound}
 use Rattle.powers.proofs.kept.Statement.{statement}
 use Rattle.powers.proofs.kept.Tie as tie
 
 returns : tie.Need-returns
-unfolding wordIn
-returns c = let long : 63 < c .before .before .args .size = search needs in search (row-too-long, needs)
+returns c = let long : 63 < c .before .before .args .size = search needs in (search (long-sound, needs), search (kept-long, needs))
 
 sub-copy : tie.Need-sub-copy
 sub-copy c = search needs
@@ -26,8 +24,7 @@ copy-requires : tie.Need-copy-requires
 copy-requires c κs = search needs
 
 returns-2 : tie.Need-returns-2
-unfolding wordIn
-returns-2 c = search (copied-freelyReduced, copied-within, needs)
+returns-2 c = (search (kept-sound, needs), search (kept-short, needs))
 
 pub kept-spec : {M : Type 1} → statement M
 kept-spec =

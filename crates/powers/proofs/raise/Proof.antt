@@ -2,7 +2,7 @@
 use borrow.Author.Needs.{needs}
 use Rattle.words.proofs.Buffers.{front-part, front-short}
 use Rattle.words.proofs.Joining.{pushed-freelyReduced}
-use Rattle.powers.proofs.Bounded.{fits-some, freelyReduced-within, too-long-none}
+use Rattle.powers.proofs.Bounded.{fits-some, freelyReduced-within, too-long-none, word-freelyReduced}
 use Rattle.powers.proofs.raise.Statement.{statement}
 use Rattle.powers.proofs.raise.Tie as tie
 
@@ -22,7 +22,7 @@ slice-aggregate-repeat : tie.Need-slice-aggregate-repeat
 slice-aggregate-repeat c = search needs
 
 repeat-requires : tie.Need-repeat-requires
-repeat-requires c κs = search (front-part, front-short, needs)
+repeat-requires c κs = (search (front-short, needs), search (word-freelyReduced, needs))
 
 slice-aggregate-kept : tie.Need-slice-aggregate-kept
 slice-aggregate-kept c = search needs
