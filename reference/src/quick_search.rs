@@ -1,6 +1,7 @@
 //! A quick search for moves, which serves timing alone: nothing is judged by it. It follows the
 //! search of the proved library, so that the bench compares like with like, and finds the moves
-//! that the plain search of reduction.rs finds.
+//! that the plain search of reduction.rs finds. It keeps the inverses of the words beside them, so
+//! that it inverts nothing as it searches, and counts only where two letters agree already.
 
 use crate::answers::Answer;
 use crate::asking::ask_by;
@@ -9,103 +10,198 @@ use crate::moves::{Form, Move};
 use crate::records::MOST_RECORDS;
 use crate::reducedness::test_by;
 use crate::reduction::reduce_by;
-use crate::words::{cancellation, common_beginning, Word};
+use crate::words::{common_beginning, Word};
 
 /// What the search has found out about pairs of slots, and the move that it has found last.
-#[derive(Default)]
 struct Table {
     /// For each slot k and each slot i, whether no form of i shortens k.
     failed: [[bool; MOST_RECORDS]; MOST_RECORDS],
+    /// For each slot, the inverse of its word.
+    inverses: [Word; MOST_RECORDS],
     last: Option<Move>,
 }
 
-/// How many letters two words share at their ends.
-#[inline]
-fn common_end(one: &[u8], other: &[u8]) -> usize {
-    let pairs = one.iter().rev().zip(other.iter().rev());
-    pairs.take_while(|(a, b)| a == b).count()
+/// A slot's word and its inverse.
+#[derive(Clone, Copy)]
+struct Both<'a> {
+    word: &'a Word,
+    inverse: &'a Word,
 }
 
-/// How many letter pairs cancel between w(k), the changed word, and w(i), the other one.
-#[inline]
-fn cancelled(form: Form, changed: &[u8], other: &[u8]) -> usize {
-    match form {
-        Form::WordBefore => cancellation(other, changed),
-        Form::InverseBefore => common_beginning(other, changed),
-        Form::WordAfter => cancellation(changed, other),
-        Form::InverseAfter => common_end(changed, other),
-    }
+/// The words of a system and their inverses.
+#[derive(Clone, Copy)]
+struct Slots<'a> {
+    words: &'a [Word],
+    inverses: &'a [Word],
 }
 
-/// Whether one of these two forms of another slot cancels half of a slot's word.
+/// How many letters two words share at their beginnings.
 #[inline]
-fn has_half_elsewhere(words: &[Word], slot: usize, forms: [Form; 2]) -> bool {
-    let word = words[slot].letters();
-    let half = word.len() / 2;
-    (0..words.len())
-        .filter(|&other| other != slot)
-        .any(|other| {
-            let cancels_half = |form| cancelled(form, word, words[other].letters()) >= half;
-            forms.into_iter().any(cancels_half)
-        })
+fn shared(one: &Word, other: &Word) -> usize {
+    common_beginning(one.letters(), other.letters())
 }
 
-/// The shortest word of even length with both halves at the beginnings of others or inverses.
-fn shortest_with_both_halves_elsewhere(words: &[Word]) -> Option<usize> {
-    let mut shortest: Option<usize> = None;
-    for (slot, word) in words.iter().enumerate() {
-        if !word.is_empty()
-            && word.len().is_multiple_of(2)
-            && shortest.is_none_or(|best| word.len() < words[best].len())
-            && has_half_elsewhere(words, slot, [Form::InverseBefore, Form::WordBefore])
-            && has_half_elsewhere(words, slot, [Form::WordAfter, Form::InverseAfter])
-        {
-            shortest = Some(slot);
+/// Whether two words agree in their letters at the beginning and at another place.
+#[inline]
+fn agree(one: &Word, other: &Word, place: usize) -> bool {
+    one.first_letter_and(place) == other.first_letter_and(place)
+}
+
+/// For each form in order, the two words whose common beginning it cancels.
+#[inline]
+fn pairs_of_forms<'a>(changed: Both<'a>, other: Both<'a>) -> [(&'a Word, &'a Word); 4] {
+    [
+        (other.inverse, changed.word),
+        (other.word, changed.word),
+        (changed.inverse, other.word),
+        (changed.inverse, other.inverse),
+    ]
+}
+
+impl<'a> Slots<'a> {
+    /// The word of a slot and its inverse.
+    #[inline]
+    fn at(self, slot: usize) -> Both<'a> {
+        Both {
+            word: &self.words[slot],
+            inverse: &self.inverses[slot],
         }
     }
-    shortest
-}
 
-/// The half-end move of a system in which nothing shortens, if a word qualifies.
-fn half_end_move(words: &[Word]) -> Option<Move> {
-    let other = shortest_with_both_halves_elsewhere(words)?;
-    let by = words[other].letters();
-    for changed in (0..words.len()).filter(|&changed| changed != other) {
-        for form in [Form::InverseAfter, Form::WordBefore] {
-            if cancelled(form, words[changed].letters(), by) >= by.len() / 2 {
-                return Some(Move {
-                    changed,
-                    form,
-                    other,
-                });
+    /// Whether another slot's word or its inverse begins with the first half of this slot's letters.
+    #[inline]
+    fn has_half_elsewhere(self, slot: usize, letters: &Word) -> bool {
+        let half = letters.len() / 2;
+        let begins = |word| agree(word, letters, half - 1) && shared(word, letters) >= half;
+        (0..self.words.len()).any(|other| {
+            let Both { word, inverse } = self.at(other);
+            other != slot && (begins(word) || begins(inverse))
+        })
+    }
+
+    /// The shortest word of even length with both halves at the beginnings of others or inverses.
+    fn shortest_with_both_halves_elsewhere(self) -> Option<usize> {
+        let mut shortest: Option<usize> = None;
+        for slot in 0..self.words.len() {
+            let Both { word, inverse } = self.at(slot);
+            if !word.is_empty()
+                && word.len().is_multiple_of(2)
+                && shortest.is_none_or(|best| word.len() < self.words[best].len())
+                && self.has_half_elsewhere(slot, word)
+                && self.has_half_elsewhere(slot, inverse)
+            {
+                shortest = Some(slot);
             }
         }
+        shortest
     }
-    None
+
+    /// The half-end move of a system in which nothing shortens, if a word qualifies.
+    fn half_end_move(self) -> Option<Move> {
+        let other = self.shortest_with_both_halves_elsewhere()?;
+        let by = self.at(other).inverse;
+        for changed in (0..self.words.len()).filter(|&changed| changed != other) {
+            let Both { word, inverse } = self.at(changed);
+            for (form, side) in [(Form::InverseAfter, inverse), (Form::WordBefore, word)] {
+                if shared(side, by) >= by.len() / 2 {
+                    return Some(Move {
+                        changed,
+                        form,
+                        other,
+                    });
+                }
+            }
+        }
+        None
+    }
+}
+
+/// What the trial of a pair of slots gives.
+enum Trial {
+    /// The first form that shortens the changed slot by the other.
+    Found(Form),
+    /// No form shortens the changed slot, and whether none shortens the other one either.
+    Failed { both_ways: bool },
+}
+
+/// Tries the forms by which one word may shorten another; a form that shortens one of the two has
+/// more than half of the shorter one in common.
+#[inline]
+fn trial(changed: Both, other: Both) -> Trial {
+    let pairs = pairs_of_forms(changed, other);
+    let shorter = changed.word.len().min(other.word.len());
+    if shorter == 0 || shorter >= 2 && no_two_letters_agree(pairs) {
+        return Trial::Failed { both_ways: true };
+    }
+    let half = shorter / 2;
+    let mut most = half;
+    for (form, (one, two)) in Form::ALL.into_iter().zip(pairs) {
+        if agree(one, two, half) {
+            let count = shared(one, two);
+            if 2 * count > other.word.len() {
+                return Trial::Found(form);
+            }
+            most = most.max(count);
+        }
+    }
+    let both_ways = 2 * most <= changed.word.len();
+    Trial::Failed { both_ways }
+}
+
+/// Whether no form has two words that agree in their first two letters; the four answers are joined
+/// as numbers, so that there is no branch for each.
+#[inline]
+fn no_two_letters_agree(pairs: [(&Word, &Word); 4]) -> bool {
+    let [one, two, three, four] = pairs.map(|(one, two)| u8::from(agree(one, two, 1)));
+    (one | two | three | four) == 0
+}
+
+impl Default for Table {
+    /// The table before the first search.
+    fn default() -> Table {
+        Table {
+            failed: Default::default(),
+            inverses: [Word::EMPTY; MOST_RECORDS],
+            last: None,
+        }
+    }
 }
 
 impl Table {
     /// The next move of the rules, if one applies; the move found before must have been made.
     fn next_move(&mut self, words: &[Word]) -> Option<Move> {
-        if let Some(step) = self.last {
-            self.forget(step.changed, words[step.changed].is_empty());
+        match self.last {
+            Some(step) => self.follow(step.changed, &words[step.changed]),
+            None => self.form_inverses(words),
         }
-        self.last = self
-            .first_shortening(words)
-            .or_else(|| half_end_move(words));
+        self.last = self.first_shortening(words).or_else(|| {
+            let inverses = &self.inverses[..words.len()];
+            Slots { words, inverses }.half_end_move()
+        });
         self.last
     }
 
-    /// Clears the row and the column of a changed slot, or fills them where that slot is blank now.
-    fn forget(&mut self, slot: usize, blank: bool) {
-        self.failed[slot] = [blank; MOST_RECORDS];
+    /// Forms the inverses of all words.
+    fn form_inverses(&mut self, words: &[Word]) {
+        for (inverse, word) in self.inverses.iter_mut().zip(words) {
+            *inverse = word.inverse();
+        }
+    }
+
+    /// Forms the inverse of a changed slot's word again, and clears the slot's row and column, or
+    /// fills them where the word is blank now.
+    fn follow(&mut self, slot: usize, word: &Word) {
+        self.inverses[slot] = word.inverse();
+        self.failed[slot] = [word.is_empty(); MOST_RECORDS];
         for row in &mut self.failed {
-            row[slot] = blank;
+            row[slot] = word.is_empty();
         }
     }
 
     /// The first move that makes a word strictly shorter, by changed slot, other slot and form.
     fn first_shortening(&mut self, words: &[Word]) -> Option<Move> {
+        let inverses = &self.inverses[..words.len()];
+        let slots = Slots { words, inverses };
         let last = self.last.map_or(0, |step| step.changed);
         for changed in 0..words.len() {
             // No slot before the one changed last is shortened by another than that one.
@@ -118,33 +214,20 @@ impl Table {
                 if self.failed[changed][other] || other == changed {
                     continue;
                 }
-                if let Some(form) = self.shortening_form(words, changed, other) {
-                    return Some(Move {
-                        changed,
-                        form,
-                        other,
-                    });
+                match trial(slots.at(changed), slots.at(other)) {
+                    Trial::Found(form) => {
+                        return Some(Move {
+                            changed,
+                            form,
+                            other,
+                        })
+                    }
+                    Trial::Failed { both_ways } => {
+                        self.failed[changed][other] = true;
+                        self.failed[other][changed] |= both_ways;
+                    }
                 }
             }
-        }
-        None
-    }
-
-    /// The first form that shortens one slot by another; if there is none, that is noted.
-    #[inline]
-    fn shortening_form(&mut self, words: &[Word], changed: usize, other: usize) -> Option<Form> {
-        let (word, by) = (words[changed].letters(), words[other].letters());
-        let mut most = 0;
-        for form in Form::ALL {
-            let count = cancelled(form, word, by);
-            if 2 * count > by.len() {
-                return Some(form);
-            }
-            most = most.max(count);
-        }
-        self.failed[changed][other] = true;
-        if 2 * most <= word.len() {
-            self.failed[other][changed] = true;
         }
         None
     }

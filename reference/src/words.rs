@@ -84,6 +84,13 @@ impl Word {
         self.length == 0
     }
 
+    /// The first letter and the one at another place, below 63, as one number; for a letter that the
+    /// word does not have any byte may stand there.
+    #[inline]
+    pub fn first_letter_and(&self, place: usize) -> u16 {
+        u16::from_le_bytes([self.letters[0], self.letters[place]])
+    }
+
     /// The letters backward with case changed.
     #[inline]
     pub fn inverse(&self) -> Word {

@@ -1,6 +1,6 @@
--- The search for a half-end move over words held in arrays. The halves of a word are compared by counts: a word begins with the first half
--- of another, or of its inverse, where the letters that they have in common reach over that half.
-use Prim.Native.Nat.{_%_, _*_, _+_, _/_, _<_, _≤_, ℕ}
+-- The search for a half-end move over words held in arrays, with their inverses. The halves of a word are compared by counts: a word begins
+-- with the first half of another, or of its inverse, where the letters that they have in common reach over that half.
+use Prim.Native.Nat.{_%_, _+_, _-_, _/_, _<_, _≤_, ℕ}
 use mathlib.Core.Bool.{Bool, false, not, true}
 use mathlib.Core.List.{List}
 use mathlib.Core.Logic.{inl, inr}
@@ -9,13 +9,12 @@ use mathlib.Core.Path.{_∙_, _≡_, ap, ap₂, refl, sym}
 use native.Mathlib.Numerals.{add-one}
 use native.Mathlib.Omega.{arith}
 use lib.Dec.{eqb, leb}
-use lib.ListN.{drop, getD, length, length-drop}
-use lib.Seq.{length-take-le}
+use lib.ListN.{getD, length}
 use borrow.Author.Tests.{eq-eqb, le-leb, lt-leb, ne-eqb, not-false, not-true}
 use Rattle.words.specs.Alphabet.{bytes}
-use Rattle.words.specs.Words.{cancellation, commonPrefix, commonSuffix, inverse, signed}
+use Rattle.words.specs.Words.{commonPrefix, inverse, signed}
 use Rattle.words.proofs.Alphabet.{byteLaws}
-use Rattle.words.proofs.Cancellation.{cancellation-commonPrefix}
+use Rattle.words.proofs.Inverse.{inverse-length}
 use Rattle.systems.specs.Moves.{form₁, form₄}
 use Rattle.systems.specs.Products.{word}
 use Rattle.systems.specs.Rules.{begins, elsewhere, ends, first, firstHalf, halfEnd, qualifies, secondHalf, shortestBelow, tryHalf}
@@ -25,19 +24,62 @@ use Rattle.systems.proofs.Halves.{back-half, begins-signed, ends-signed}
 use Rattle.systems.proofs.Logic.{bool-cases}
 use Rattle.systems.proofs.Searching.{any-found, any-more-one, first-more-one}
 use Rattle.slots.specs.Held.{Short, held, heldWord}
-use Rattle.slots.proofs.Holding.{held-length, held-word}
+use Rattle.slots.proofs.Holding.{held-length, held-size, held-word}
+use Rattle.inverses.specs.Inverses.{Inverted, letterPair}
+use Rattle.inverses.proofs.Alike.{pairs-apart}
 use Rattle.half_ends.specs.HalfEnds.{halfElsewhere, meetsHalf}
 
--- whether a word or its inverse begins with the first half of another, by the two counts
-module _ (b : Bool) (w v : List ℕ) (c : ℕ) (counted : c ≡ commonPrefix bytes (signed bytes b w) v) where
-  pub half-met : length w / 2 ≤ c → true ≡ meetsHalf b w v
-  unfolding meetsHalf
-  half-met h = rw (begins-signed bytes byteLaws b w v, ← counted, le-leb (length w / 2) c h)
+-- whether two words have so many letters in common, by two letters of each or by the count
+module _ (half h i : ℕ) (first second lengths : List ℕ) where
+  pub pairs-unalike : (x y : ℕ) → 1 ≤ half → x ≡ letterPair first h (half - 1) → y ≡ letterPair second i (half - 1) → (x ≡ y → ⊥)
+      → false ≡ leb half (commonPrefix bytes (heldWord first lengths h) (heldWord second lengths i))
+  pairs-unalike x y l p q apart =
+      sym (lt-leb half _ (omega (arith, pairs-apart first second lengths h i (half - 1) x y p q apart)))
 
-  pub half-other : (d : ℕ) → c < length w / 2 → d ≡ commonPrefix bytes (signed bytes b w) (inverse bytes v) → leb (length w / 2) d ≡ meetsHalf b w v
+  pub counted-alike : (u v : List ℕ) (common : ℕ) → u ≡ heldWord first lengths h → v ≡ heldWord second lengths i
+      → common ≡ commonPrefix bytes u v
+      → leb half common ≡ leb half (commonPrefix bytes (heldWord first lengths h) (heldWord second lengths i))
+  counted-alike u v common mine yours counted = ap (leb half) (counted ∙ ap₂ (commonPrefix bytes) mine yours)
+
+-- the array that has slot h's word, or the inverse of it
+pub source-word : (inverted : Bool) (letters lengths : List ℕ) (h : ℕ) → inverted ≡ false
+    → heldWord letters lengths h ≡ signed bytes inverted (heldWord letters lengths h)
+source-word inverted letters lengths h e = rw e
+
+pub source-inverse : (inverted : Bool) (letters inverses lengths : List ℕ) (n h : ℕ) → inverted ≡ true
+    → Inverted n letters inverses lengths → h < n
+    → heldWord inverses lengths h ≡ signed bytes inverted (heldWord letters lengths h)
+source-inverse inverted letters inverses lengths n h e turned inside = rw e (turned .each h inside)
+
+-- whether a word or its inverse begins with the first half of another, or of its inverse, by the two tests
+module _ (inverted : Bool) (source letters lengths : List ℕ) (n h i size : ℕ) (plain : Bool)
+    (told : plain ≡ leb (size / 2) (commonPrefix bytes (heldWord source lengths h) (heldWord letters lengths i)))
+    (sized : size ≡ getD lengths h 0) (mine : heldWord source lengths h ≡ signed bytes inverted (heldWord letters lengths h)) (few : n ≤ 16)
+    (inside : h < n) (wide : length letters ≡ 1024) (short : Short lengths) where
+  -- one test, for any word
+  begins-test : (v : List ℕ) → begins bytes (firstHalf bytes (signed bytes inverted (heldWord letters lengths h))) v
+      ≡ leb (size / 2) (commonPrefix bytes (heldWord source lengths h) v)
+  begins-test v =
+      begins-signed bytes byteLaws inverted (heldWord letters lengths h) v
+      ∙ ap₂ (λ (m : ℕ) (u : List ℕ). leb (m / 2) (commonPrefix bytes u v))
+      (held-size letters lengths h (omega arith) wide short ∙ sym sized) (sym mine)
+
+  pub half-met : plain ≡ true → plain ≡ meetsHalf inverted (heldWord letters lengths h) (heldWord letters lengths i)
   unfolding meetsHalf
-  half-other d h e =
-      rw (begins-signed bytes byteLaws b w v, begins-signed bytes byteLaws b w (inverse bytes v), ← counted, ← e, lt-leb (length w / 2) c h)
+  half-met e = rw (begins-test (heldWord letters lengths i), ← told, e)
+
+  pub half-other : (inverses : List ℕ) (other : Bool) → plain ≡ false → Inverted n letters inverses lengths → i < n
+      → other ≡ leb (size / 2) (commonPrefix bytes (heldWord source lengths h) (heldWord inverses lengths i))
+      → other ≡ meetsHalf inverted (heldWord letters lengths h) (heldWord letters lengths i)
+  unfolding meetsHalf
+  half-other inverses other e turned i-inside met =
+      rw (
+        begins-test (heldWord letters lengths i),
+        ← told,
+        e,
+        begins-test (inverse bytes (heldWord letters lengths i)),
+        ← turned .each i i-inside,
+      ) met
 
 -- the loop over the other slots
 module _ (inverted : Bool) (letters lengths : List ℕ) (n h i : ℕ) where
@@ -56,12 +98,10 @@ module _ (inverted : Bool) (letters lengths : List ℕ) (n h i : ℕ) where
     pub elsewhere-end : i ≤ n → n ≤ i → false ≡ halfElsewhere inverted n (held n letters lengths) h
     elsewhere-end l m = let z : i ≡ n = omega arith in sym (rw z at none-yet)
 
-    module _ (met : Bool) (whole other : List ℕ) (told : met ≡ meetsHalf inverted whole other) (mine : whole ≡ heldWord letters lengths h)
-        (yours : other ≡ heldWord letters lengths i) (h-inside : h < n) (i-inside : i < n) where
+    module _ (met : Bool) (told : met ≡ meetsHalf inverted (heldWord letters lengths h) (heldWord letters lengths i)) (h-inside : h < n)
+        (i-inside : i < n) where
       met-words : met ≡ meetsHalf inverted (word bytes (held n letters lengths) h) (word bytes (held n letters lengths) i)
-      met-words =
-          told ∙ ap₂ (meetsHalf inverted) (mine ∙ sym (held-word n h letters lengths h-inside))
-          (yours ∙ sym (held-word n i letters lengths i-inside))
+      met-words = told ∙ sym (ap₂ (meetsHalf inverted) (held-word n h letters lengths h-inside) (held-word n i letters lengths i-inside))
 
       pub elsewhere-turn : (i ≡ h → ⊥) → met ≡ false → halfElsewhere inverted (i + 1) (held n letters lengths) h ≡ false
       unfolding halfElsewhere meetsHalf
@@ -70,12 +110,6 @@ module _ (inverted : Bool) (letters lengths : List ℕ) (n h i : ℕ) where
       pub elsewhere-met : (i ≡ h → ⊥) → met ≡ true → true ≡ halfElsewhere inverted n (held n letters lengths) h
       unfolding halfElsewhere meetsHalf
       elsewhere-met apart e = sym (any-found begun i n i-inside (rw (ne-eqb i h apart, sym met-words ∙ e)))
-
--- a held word has the length that is held for it
-pub held-size : (letters lengths : List ℕ) (k : ℕ) → k < 16 → length letters ≡ 1024 → Short lengths
-    → length (heldWord letters lengths k) ≡ getD lengths k 0
-held-size letters lengths k inside wide short =
-    length-take-le (getD lengths k 0) (drop (k * 64) letters) (rw (length-drop (k * 64) letters) (omega (arith, short k)))
 
 -- whether the word of slot h qualifies, test after test
 module _ (letters lengths : List ℕ) (n h size : ℕ) (sized : size ≡ getD lengths h 0) (few : n ≤ 16) (inside : h < n)
@@ -203,52 +237,61 @@ module _ (letters lengths : List ℕ) (n h k : ℕ) (kept : Kept letters lengths
       let z : k ≡ length (held n letters lengths) = omega (arith, held-length n letters lengths) in
       sym (halfEnd-chosen bytes byteLaws (held n letters lengths) h chosen-whole ∙ (rw z at (kept .none-before)))
 
-  module _ (whole changed : List ℕ) (back : ℕ) (counted : back ≡ commonSuffix bytes whole changed)
-      (mine : whole ≡ heldWord letters lengths h) (yours : changed ≡ heldWord letters lengths k) (h-inside : h < n) (k-inside : k < n) where
-    whole-word : whole ≡ word bytes (held n letters lengths) h
-    whole-word = mine ∙ sym (held-word n h letters lengths h-inside)
+  -- both counts are of letters that a word has in common with the inverse of slot h's word
+  module _ (inverses other-inverse changed-inverse : List ℕ) (back : ℕ) (counted : back ≡ commonPrefix bytes other-inverse changed-inverse)
+      (mine : other-inverse ≡ heldWord inverses lengths h) (yours : changed-inverse ≡ heldWord inverses lengths k)
+      (turned : Inverted n letters inverses lengths) (h-inside : h < n) (k-inside : k < n) where
+    inverse-word : (j : ℕ) → j < n → heldWord inverses lengths j ≡ inverse bytes (word bytes (held n letters lengths) j)
+    inverse-word j l = turned .each j l ∙ ap (inverse bytes) (sym (held-word n j letters lengths l))
 
-    changed-word : changed ≡ word bytes (held n letters lengths) k
-    changed-word = yours ∙ sym (held-word n k letters lengths k-inside)
+    half-test : (v w : List ℕ) (count : ℕ) → count ≡ commonPrefix bytes other-inverse v → v ≡ w
+        → leb (length (word bytes (held n letters lengths) h) / 2)
+        (commonPrefix bytes (inverse bytes (word bytes (held n letters lengths) h)) w)
+        ≡ leb (length other-inverse / 2) count
+    half-test v w count e same =
+        let whole : other-inverse ≡ inverse bytes (word bytes (held n letters lengths) h) = mine ∙ inverse-word h h-inside in
+        sym (ap₂ (λ (m c : ℕ). leb (m / 2) c) (ap length whole ∙ inverse-length bytes byteLaws _) (e ∙ ap₂ (commonPrefix bytes) whole same))
 
-    -- whether the changed word ends with the second half, by the count
-    back-test : ends bytes (secondHalf bytes (word bytes (held n letters lengths) h)) (word bytes (held n letters lengths) k) ≡ leb (length whole / 2) back
+    -- whether the changed word ends with the second half
+    back-test : ends bytes (secondHalf bytes (word bytes (held n letters lengths) h)) (word bytes (held n letters lengths) k)
+        ≡ leb (length other-inverse / 2) back
     back-test =
         ends-signed bytes byteLaws false false (word bytes (held n letters lengths) h) (word bytes (held n letters lengths) k) chosen-even
-        ∙ rw (counted, whole-word, changed-word) refl
+        ∙ half-test changed-inverse _ back counted (yours ∙ inverse-word k k-inside)
 
-    pub kept-at-end : (k ≡ h → ⊥) → length whole / 2 ≤ back
+    pub kept-at-end : (k ≡ h → ⊥) → length other-inverse / 2 ≤ back
         → some (record { changed = k; form = form₄; other = h }) ≡ halfEnd bytes (held n letters lengths)
     kept-at-end apart reached =
         let S : List (List ℕ) = held n letters lengths in
         sym (halfEnd-first bytes byteLaws S h k (record { changed = k; form = form₄; other = h }) chosen-whole
         (rw (held-length n letters lengths) k-inside) (kept .none-before)
-        (half-at-end bytes byteLaws S h k apart (back-test ∙ le-leb (length whole / 2) back reached)))
+        (half-at-end bytes byteLaws S h k apart (back-test ∙ le-leb (length other-inverse / 2) back reached)))
 
-    module _ (front : ℕ) (met : front ≡ cancellation bytes whole changed) (short : back < length whole / 2) where
+    module _ (changed : List ℕ) (front : ℕ) (met : front ≡ commonPrefix bytes other-inverse changed)
+        (here : changed ≡ heldWord letters lengths k) (short : back < length other-inverse / 2) where
+      -- whether it begins with the inverse of that
       front-test : begins bytes (inverse bytes (secondHalf bytes (word bytes (held n letters lengths) h))) (word bytes (held n letters lengths) k)
-          ≡ leb (length whole / 2) front
+          ≡ leb (length other-inverse / 2) front
       front-test =
           ap (λ (u : List ℕ). begins bytes u (word bytes (held n letters lengths) k))
           (back-half bytes byteLaws (word bytes (held n letters lengths) h) chosen-even)
           ∙ begins-signed bytes byteLaws true (word bytes (held n letters lengths) h) (word bytes (held n letters lengths) k)
-          ∙ rw (met, whole-word, changed-word)
-          (ap (leb _) (sym (cancellation-commonPrefix bytes byteLaws (word bytes (held n letters lengths) h) (word bytes (held n letters lengths) k))))
+          ∙ half-test changed _ front met (here ∙ sym (held-word n k letters lengths k-inside))
 
-      pub kept-at-beginning : (k ≡ h → ⊥) → length whole / 2 ≤ front
+      pub kept-at-beginning : (k ≡ h → ⊥) → length other-inverse / 2 ≤ front
           → some (record { changed = k; form = form₁; other = h }) ≡ halfEnd bytes (held n letters lengths)
       kept-at-beginning apart reached =
           let S : List (List ℕ) = held n letters lengths in
           sym (halfEnd-first bytes byteLaws S h k (record { changed = k; form = form₁; other = h }) chosen-whole
           (rw (held-length n letters lengths) k-inside) (kept .none-before)
-          (half-at-beginning bytes byteLaws S h k apart (back-test ∙ lt-leb (length whole / 2) back short)
-          (front-test ∙ le-leb (length whole / 2) front reached)))
+          (half-at-beginning bytes byteLaws S h k apart (back-test ∙ lt-leb (length other-inverse / 2) back short)
+          (front-test ∙ le-leb (length other-inverse / 2) front reached)))
 
-      pub kept-turn : front < length whole / 2 → Kept letters lengths n h (k + 1)
+      pub kept-turn : front < length other-inverse / 2 → Kept letters lengths n h (k + 1)
       kept-turn less =
           kept-more
-          (half-neither bytes byteLaws (held n letters lengths) h k (back-test ∙ lt-leb (length whole / 2) back short)
-          (front-test ∙ lt-leb (length whole / 2) front less))
+          (half-neither bytes byteLaws (held n letters lengths) h k (back-test ∙ lt-leb (length other-inverse / 2) back short)
+          (front-test ∙ lt-leb (length other-inverse / 2) front less))
 
 -- no word qualifies, so there is no half-end move
 pub none-chosen : (letters lengths : List ℕ) (n h : ℕ) → (n ≤ h → shortestBelow bytes (held n letters lengths) n ≡ none) → n ≤ h

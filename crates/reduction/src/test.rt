@@ -5,6 +5,7 @@ ghost use Rattle.runs.specs.Runs.{stopped};
 ghost use Rattle.reduction.specs.Meaning.{TestMeans};
 ghost use Rattle.reduction.specs.Reduction.{refusedTest, testAnswer};
 use crate::answers::Tested;
+use inverses::forming::invert_words;
 use records::answers::Checked;
 use records::answers::Verdict;
 use records::record::RECORD;
@@ -44,8 +45,10 @@ pub fn is_reduced(letters: &[u8], lengths: &[usize], n: usize) -> bool
     requires { ⌜ Held n (now letters) (now lengths) ⌝ }
     ensures { λ r. ⌜ r ≡ stopped (held n (now (letters .entry)) (now (lengths .entry))) ⌝ }
 {
+    let mut inverses = [0u8; 1024];
+    invert_words(letters, lengths, n, &mut inverses);
     let mut marks = [0u8; 256];
-    let found = find_move(letters, lengths, n, 0, &mut marks);
+    let found = find_move(letters, &inverses, lengths, n, 0, &mut marks);
     is_nothing(found)
 }
 

@@ -12,13 +12,14 @@ use lib.Seq.{drop-at, drop-drop, take-at}
 use borrow.Author.Tests.{le-leb}
 use Rattle.words.specs.Alphabet.{bytes}
 use Rattle.words.specs.Buffers.{written}
+use Rattle.words.specs.Words.{inverse}
 use Rattle.words.proofs.Alphabet.{byteLaws}
 use Rattle.systems.specs.Moves.{Move, made, madeAll, movedWord}
 use Rattle.systems.specs.Products.{word}
 use Rattle.systems.specs.Rules.{halfEnd, movesWithin, next, runWithin, shortening}
 use Rattle.systems.proofs.Neither.{next-halfEnd, next-shortening, next-valid}
 use Rattle.systems.proofs.Runs.{ended-moves, turn-length, turn-moves, turn-run}
-use Rattle.slots.specs.Held.{Held, held}
+use Rattle.slots.specs.Held.{Held, held, heldWord}
 use Rattle.slots.proofs.Holding.{held-length, held-short, held-word}
 use Rattle.moves.specs.Found.{FoundBelow, foundMove, moveOf}
 use Rattle.moves.specs.declared.found.Found.{Found}
@@ -28,6 +29,8 @@ use Rattle.moves.specs.Logs.{logOf, logRecord, moveSize}
 use Rattle.moves.proofs.LogBack.{logOf-last, logOf-length}
 use Rattle.marks.specs.Marks.{Marked, PairsSet, Settled}
 use Rattle.marks.proofs.Marking.{marked-blank, marked-made, settled-made}
+use Rattle.inverses.specs.Inverses.{Inverted}
+use Rattle.inverses.proofs.Inverting.{inverted-again}
 use Rattle.shortening.proofs.Searching.{blank-changed, blank-other}
 use Rattle.runs.specs.Runs.{FoundNext, isNone, stopped}
 
@@ -68,6 +71,17 @@ module _ (n : ℕ) (letters lengths : List ℕ) (T : List (List ℕ)) {r : Bool}
   pub advanced-marked : (marks marks′ : List ℕ) → Marked n (held n letters lengths) marks → PairsSet (m .changed) 0 marks marks′ → Marked n T marks′
   advanced-marked marks marks′ marked gone =
       rw advanced (marked-made n (held n letters lengths) (moveOf m) marks marks′ (here .few) marked gone)
+
+-- and the inverses, of which that of the changed slot was formed again
+pub advanced-inverted : (n : ℕ) (letters lengths letters′ lengths′ inverses inverses′ : List ℕ) {r : Bool} (m : CodeMove)
+    → FoundNext n (held n letters lengths) (FoundMove m) → Held n letters lengths → r ≡ leb (length (movedWord bytes (held n letters lengths) (moveOf m))) 63
+    → (r ≡ true → held n letters′ lengths′ ≡ made bytes (held n letters lengths) (moveOf m)) → Held n letters′ lengths′
+    → Inverted n letters inverses lengths → length inverses′ ≡ length inverses
+    → heldWord inverses′ lengths′ (m .changed) ≡ inverse bytes (heldWord letters′ lengths′ (m .changed))
+    → ((j : ℕ) → (j ≡ m .changed → ⊥) → heldWord inverses′ lengths′ j ≡ heldWord inverses lengths′ j) → Inverted n letters′ inverses′ lengths′
+advanced-inverted n letters lengths letters′ lengths′ inverses inverses′ m told here fits done there before same formed others =
+    inverted-again n (m .changed) letters lengths letters′ lengths′ inverses inverses′ (movedWord bytes (held n letters lengths) (moveOf m)) here there
+    (advanced n letters lengths (held n letters′ lengths′) m told here fits done) before same formed others
 
 -- the pairs with a blank slot
 pub blank-marked : (n c size v : ℕ) (letters lengths marks marks′ : List ℕ) → Held n letters lengths → c < n → size ≡ getD lengths c 0 → size ≡ 0

@@ -11,8 +11,11 @@ ghost use Rattle.slots.specs.Held.{Held, held};
 ghost use Rattle.moves.specs.Found.{foundMove, moveOf};
 ghost use Rattle.moves.specs.Logs.{logOf, logRecord, moveSize};
 ghost use Rattle.marks.specs.Marks.{Marked, Settled};
+ghost use Rattle.inverses.specs.Inverses.{Inverted};
 ghost use Rattle.runs.specs.Runs.{FoundNext, isNone, roomFor, stopped};
 use half_ends::find_half_end;
+use inverses::forming::invert_word;
+use inverses::forming::invert_words;
 use marks::set_pairs;
 use moves::found::Found;
 use moves::found::Move;
@@ -25,6 +28,7 @@ use slots::held::length_of;
 // The next move of the rules: a shortening, or else a half-end move.
 pub fn find_move(
     letters: &[u8],
+    inverses: &[u8],
     lengths: &[usize],
     n: usize,
     last: usize,
@@ -32,17 +36,18 @@ pub fn find_move(
 ) -> Found
     requires { ⌜ last ≤ n - 1 ⌝ }
     requires { ⌜ Held n (now letters) (now lengths) ⌝ }
+    requires { ⌜ Inverted n (now letters) (now inverses) (now lengths) ⌝ }
     requires { ⌜ length (now marks) ≡ 256 ⌝ }
     requires { ⌜ Marked n (held n (now letters) (now lengths)) (now marks) ⌝ }
     requires { ⌜ Settled n (held n (now letters) (now lengths)) last ⌝ }
     ensures found { λ r. ⌜ FoundNext n (held n (now (letters .entry)) (now (lengths .entry))) r ⌝ }
     ensures marked { λ _. ⌜ Marked n (held n (now (letters .entry)) (now (lengths .entry))) (now (marks .exit)) ⌝ }
 {
-    let found = find_shortening(letters, lengths, n, last, marks);
+    let found = find_shortening(letters, inverses, lengths, n, last, marks);
     let Found::Nothing = found else {
         return found;
     };
-    find_half_end(letters, lengths, n)
+    find_half_end(letters, inverses, lengths, n)
 }
 
 // Whether a search found nothing.
@@ -75,18 +80,29 @@ fn pass_blank(letters: &[u8], lengths: &[usize], n: usize, c: usize, marks: &mut
     }
 }
 
-// Makes the next move, and takes away the marks of its changed slot, or sets all of them where it is blank now.
-fn advance(letters: &mut [u8], lengths: &mut [usize], n: usize, m: Move, marks: &mut [u8])
+// Makes the next move, forms the inverse of its changed slot again, and takes away the marks of that slot, or sets all of them where it is
+// blank now.
+fn advance(
+    letters: &mut [u8],
+    inverses: &mut [u8],
+    lengths: &mut [usize],
+    n: usize,
+    m: Move,
+    marks: &mut [u8],
+)
     requires { ⌜ Held n (now letters) (now lengths) ⌝ }
+    requires { ⌜ Inverted n (now letters) (now inverses) (now lengths) ⌝ }
     requires { ⌜ length (now marks) ≡ 256 ⌝ }
     requires { ⌜ Marked n (held n (now letters) (now lengths)) (now marks) ⌝ }
     requires { ⌜ FoundNext n (held n (now letters) (now lengths)) (Found.Move m) ⌝ }
     ensures words { λ _. ⌜ held n (now (letters .exit)) (now (lengths .exit)) ≡ made bytes (held n (now (letters .entry)) (now (lengths .entry))) (moveOf m) ⌝ }
     ensures held { λ _. ⌜ Held n (now (letters .exit)) (now (lengths .exit)) ⌝ }
+    ensures inverted { λ _. ⌜ Inverted n (now (letters .exit)) (now (inverses .exit)) (now (lengths .exit)) ⌝ }
     ensures marked { λ _. ⌜ Marked n (held n (now (letters .exit)) (now (lengths .exit))) (now (marks .exit)) ⌝ }
 {
     let c = m.changed;
     make_move(letters, lengths, n, m);
+    invert_word(letters, lengths, n, m.changed, inverses);
     set_pairs(marks, c, 0);
     pass_blank(letters, lengths, n, c, marks);
 }
@@ -94,6 +110,7 @@ fn advance(letters: &mut [u8], lengths: &mut [usize], n: usize, m: Move, marks: 
 // Makes the next move and logs it, and finds the one after it.
 fn take_move(
     letters: &mut [u8],
+    inverses: &mut [u8],
     lengths: &mut [usize],
     n: usize,
     m: Move,
@@ -102,6 +119,7 @@ fn take_move(
     used: usize,
 ) -> Found
     requires { ⌜ Held n (now letters) (now lengths) ⌝ }
+    requires { ⌜ Inverted n (now letters) (now inverses) (now lengths) ⌝ }
     requires { ⌜ length (now marks) ≡ 256 ⌝ }
     requires { ⌜ Marked n (held n (now letters) (now lengths)) (now marks) ⌝ }
     requires { ⌜ FoundNext n (held n (now letters) (now lengths)) (Found.Move m) ⌝ }
@@ -109,12 +127,13 @@ fn take_move(
     ensures found { λ r. ⌜ FoundNext n (held n (now (letters .exit)) (now (lengths .exit))) r ⌝ }
     ensures words { λ _. ⌜ held n (now (letters .exit)) (now (lengths .exit)) ≡ made bytes (held n (now (letters .entry)) (now (lengths .entry))) (moveOf m) ⌝ }
     ensures held { λ _. ⌜ Held n (now (letters .exit)) (now (lengths .exit)) ⌝ }
+    ensures inverted { λ _. ⌜ Inverted n (now (letters .exit)) (now (inverses .exit)) (now (lengths .exit)) ⌝ }
     ensures marked { λ _. ⌜ Marked n (held n (now (letters .exit)) (now (lengths .exit))) (now (marks .exit)) ⌝ }
     ensures log { λ _. ⌜ now (log .exit) ≡ take (used * moveSize) (now (log .entry)) ++ (logRecord (moveOf m) ++ drop (used * moveSize + moveSize) (now (log .entry))) ⌝ }
 {
-    advance(letters, lengths, n, m, marks);
+    advance(letters, inverses, lengths, n, m, marks);
     write_move(log, used, m);
-    find_move(letters, lengths, n, m.changed, marks)
+    find_move(letters, inverses, lengths, n, m.changed, marks)
 }
 
 // Runs the moves as far as the log has room for them.
@@ -126,14 +145,17 @@ pub fn run(letters: &mut [u8], lengths: &mut [usize], n: usize, log: &mut [u8]) 
     ensures log { λ _. ⌜ now (log .exit) ≡ written (logOf (movesWithin bytes (roomFor (now (log .entry))) (held n (now (letters .entry)) (now (lengths .entry))))) (now (log .entry)) ⌝ }
     ensures held { λ _. ⌜ Held n (now (letters .exit)) (now (lengths .exit)) ⌝ }
 {
+    let mut inverses = [0u8; 1024];
+    invert_words(letters, lengths, n, &mut inverses);
     let mut marks = [0u8; 256];
-    let first = find_move(letters, lengths, n, 0, &mut marks);
-    run_from(letters, lengths, n, first, &mut marks, log)
+    let first = find_move(letters, &inverses, lengths, n, 0, &mut marks);
+    run_from(letters, &mut inverses, lengths, n, first, &mut marks, log)
 }
 
-// The same from a table of marks and the first move.
+// The same from the inverses of the words, a table of marks and the first move.
 fn run_from(
     letters: &mut [u8],
+    inverses: &mut [u8],
     lengths: &mut [usize],
     n: usize,
     first: Found,
@@ -141,6 +163,7 @@ fn run_from(
     log: &mut [u8],
 ) -> Ran
     requires { ⌜ Held n (now letters) (now lengths) ⌝ }
+    requires { ⌜ Inverted n (now letters) (now inverses) (now lengths) ⌝ }
     requires { ⌜ length (now marks) ≡ 256 ⌝ }
     requires { ⌜ Marked n (held n (now letters) (now lengths)) (now marks) ⌝ }
     requires { ⌜ FoundNext n (held n (now letters) (now lengths)) first ⌝ }
@@ -157,7 +180,7 @@ fn run_from(
         let Found::Move(m) = found else {
             break;
         };
-        found = take_move(letters, lengths, n, m, marks, log, used);
+        found = take_move(letters, inverses, lengths, n, m, marks, log, used);
         used += 1;
     }
     Ran {

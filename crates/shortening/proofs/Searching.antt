@@ -1,50 +1,150 @@
 -- The search for a shortening move over words held in arrays: three nested loops, the pair of slots and the form in the order of document
 -- 01, and what is known of the pairs that were tried and failed. One law for each turn and each way out.
-use Prim.Native.Nat.{_*_, _+_, _-_, _<_, _≤_, max, suc, zero, ℕ}
-use mathlib.Core.Bool.{Bool, false, true}
+use Prim.Native.Nat.{_*_, _+_, _-_, _/_, _<_, _≤_, max, min, suc, zero, ℕ}
+use mathlib.Core.Bool.{Bool, _||_, false, true, true≢false}
 use mathlib.Core.List.{List}
 use mathlib.Core.Logic.{_⊎_, inl, inr}
 use mathlib.Core.Option.{none, some}
 use mathlib.Core.Path.{_∙_, _≡_, ap, ap₂, refl, sym}
 use native.Mathlib.Decide.{decLt, ℕ-discrete}
 use native.Mathlib.Omega.{arith}
-use lib.Dec.{leb}
+use lib.Dec.{eqb, leb}
 use lib.ListN.{getD, length}
-use borrow.Author.Tests.{leb-true}
+use borrow.Author.Tests.{eqb-false, leb-true}
 use Rattle.words.specs.Alphabet.{bytes}
-use Rattle.words.specs.Words.{cancellation, commonPrefix, commonSuffix, freelyReduce, inverse}
+use Rattle.words.specs.Words.{commonPrefix, freelyReduce, inverse}
 use Rattle.words.proofs.Alphabet.{byteLaws}
-use Rattle.words.proofs.Cancellation.{cancellation-inverse-left, cancellation-inverse-right, commonPrefix-comm}
+use Rattle.words.proofs.Cancellation.{cancellation-commonPrefix, cancellation-inverse-left, cancellation-inverse-right, commonPrefix-comm}
 use Rattle.systems.specs.Moves.{Form, formed, seam}
 use Rattle.systems.specs.Products.{FreelyReduced, word}
 use Rattle.systems.specs.Rules.{first, formAt, shortening, tryChanged, tryForm, tryOther}
 use Rattle.systems.proofs.Searching.{first-more-one, first-nowhere}
 use Rattle.systems.proofs.Shortening.{formed-shorter, other-missed, other-same, seam-le-changed, seam-le-other, shortening-found, try-not-shorter, try-shorter}
-use Rattle.slots.specs.Held.{Held, held, heldWord}
-use Rattle.slots.proofs.Holding.{held-length, held-word}
+use Rattle.slots.specs.Held.{Held, Short, held, heldWord}
+use Rattle.slots.proofs.Holding.{held-length, held-short, held-size, held-word}
 use Rattle.moves.specs.Found.{FoundBelow, foundMove}
 use Rattle.moves.specs.declared.found.Found.{Found}
 use Rattle.moves.specs.declared.found.Found.the-variants.{Nothing}
 use Rattle.marks.specs.Marks.{Added, Marked, Outside, Settled}
 use Rattle.marks.specs.declared.Slots.{Slots}
 use Rattle.marks.proofs.Marking.{marked-more}
+use Rattle.inverses.specs.Inverses.{Inverted, letterPair}
+use Rattle.inverses.proofs.Alike.{pairs-apart}
+use Rattle.shortening.specs.Halves.{HalfAtMost}
 
--- what cancels in each of the four forms, as it is counted
-module _ (other changed : List ℕ) (form r : ℕ) where
-  pub seam-first : form ≡ 0 → r ≡ cancellation bytes other changed → r ≡ seam bytes (formAt form) other changed
-  seam-first z e = rw z e
+-- none of four tests holds
+none-of-four : (a b c d : Bool) → (((a || b) || c) || d) ≡ false → (a ≡ false) × (b ≡ false) × (c ≡ false) × (d ≡ false)
+none-of-four false false false d e = (refl, refl, refl, e)
+none-of-four false false true d e = absurd (true≢false e)
+none-of-four false true c d e = absurd (true≢false e)
+none-of-four true b c d e = absurd (true≢false e)
 
-  pub seam-second : form ≡ 1 → r ≡ commonPrefix bytes other changed → r ≡ seam bytes (formAt form) other changed
-  seam-second z e = rw z (e ∙ sym (cancellation-inverse-left bytes byteLaws other changed))
+-- no more letters are counted than a word has
+pub count-short : (r : ℕ) (u source lengths : List ℕ) (m : ℕ) → r ≤ length u → u ≡ heldWord source lengths m → Short lengths → r ≤ 63
+count-short r u source lengths m most e short = omega (arith, held-short source lengths u m short e)
 
-  pub seam-third : form ≡ 2 → r ≡ cancellation bytes changed other → r ≡ seam bytes (formAt form) other changed
-  seam-third z e = rw z e
+-- a slot has a length
+pub slot-length : (n k : ℕ) (letters lengths : List ℕ) → Held n letters lengths → k < n → (k < length lengths) × Short lengths
+slot-length n k letters lengths here inside = (omega (arith, here .few, here .counted), here .short)
 
-  pub seam-fourth : form < 4 → (form ≡ 0 → ⊥) → (form ≡ 1 → ⊥) → (form ≡ 2 → ⊥)
-      → r ≡ commonSuffix bytes changed other → r ≡ seam bytes (formAt form) other changed
-  seam-fourth h a b c e =
-      let z : form ≡ 3 = omega arith in
-      rw z (e ∙ sym (cancellation-inverse-right bytes byteLaws changed other))
+-- what cancels in each of the four forms, as it is counted over the words and the inverses of two slots
+module _ (letters inverses lengths : List ℕ) (n k i : ℕ) (beside : Inverted n letters inverses lengths) (k-in : k < n) (i-in : i < n) where
+  abbrev wi : List ℕ
+  wi = heldWord letters lengths i
+
+  abbrev wk : List ℕ
+  wk = heldWord letters lengths k
+
+  seam-first : seam bytes (formAt 0) wi wk ≡ commonPrefix bytes (heldWord inverses lengths i) wk
+  seam-first = cancellation-commonPrefix bytes byteLaws wi wk ∙ ap (λ (w : List ℕ). commonPrefix bytes w wk) (sym (beside .each i i-in))
+
+  seam-second : seam bytes (formAt 1) wi wk ≡ commonPrefix bytes wi wk
+  seam-second = cancellation-inverse-left bytes byteLaws wi wk
+
+  seam-third : seam bytes (formAt 2) wi wk ≡ commonPrefix bytes (heldWord inverses lengths k) wi
+  seam-third = cancellation-commonPrefix bytes byteLaws wk wi ∙ ap (λ (w : List ℕ). commonPrefix bytes w wi) (sym (beside .each k k-in))
+
+  seam-fourth : seam bytes (formAt 3) wi wk ≡ commonPrefix bytes (heldWord inverses lengths k) (heldWord inverses lengths i)
+  seam-fourth =
+      cancellation-commonPrefix bytes byteLaws wk (inverse bytes wi)
+      ∙ ap₂ (commonPrefix bytes) (sym (beside .each k k-in)) (sym (beside .each i i-in))
+
+  -- as the loop of common_prefix counts it
+  module _ (form r : ℕ) (u v : List ℕ) (counted : r ≡ commonPrefix bytes u v) where
+    pub count-first : form ≡ 0 → u ≡ heldWord inverses lengths i → v ≡ wk → r ≡ seam bytes (formAt form) wi wk
+    count-first z p q = rw z (counted ∙ ap₂ (commonPrefix bytes) p q ∙ sym seam-first)
+
+    pub count-second : form ≡ 1 → u ≡ wi → v ≡ wk → r ≡ seam bytes (formAt form) wi wk
+    count-second z p q = rw z (counted ∙ ap₂ (commonPrefix bytes) p q ∙ sym seam-second)
+
+    pub count-third : form ≡ 2 → u ≡ heldWord inverses lengths k → v ≡ wi → r ≡ seam bytes (formAt form) wi wk
+    count-third z p q = rw z (counted ∙ ap₂ (commonPrefix bytes) p q ∙ sym seam-third)
+
+    pub count-fourth : form < 4 → (form ≡ 0 → ⊥) → (form ≡ 1 → ⊥) → (form ≡ 2 → ⊥) → u ≡ heldWord inverses lengths k → v ≡ heldWord inverses lengths i
+        → r ≡ seam bytes (formAt form) wi wk
+    count-fourth h a b c p q =
+        let z : form ≡ 3 = omega arith in
+        rw z (counted ∙ ap₂ (commonPrefix bytes) p q ∙ sym seam-fourth)
+
+  -- at most half of either word, by a count or by two letters that differ
+  module _ (here : Held n letters lengths) where
+    few : n ≤ 16
+    few = here .few
+
+    half-words : (form : ℕ) → seam bytes (formAt form) wi wk ≤ min (getD lengths i 0) (getD lengths k 0) / 2 → HalfAtMost form wi wk
+    half-words form most = (
+      omega (arith, held-size letters lengths i (omega (arith, few)) (here .wide) (here .short)),
+      omega (arith, held-size letters lengths k (omega (arith, few)) (here .wide) (here .short)),
+    )
+
+    module _ (form half : ℕ) (halved : half ≡ min (getD lengths i 0) (getD lengths k 0) / 2) (x y : ℕ) {alike : Bool} (told : alike ≡ eqb x y) where
+      pub apart-first : form ≡ 0 → x ≡ letterPair inverses i half → y ≡ letterPair letters k half → alike ≡ false → HalfAtMost form wi wk
+      apart-first z p q e =
+          rw z (half-words 0 (omega (arith, seam-first, halved, pairs-apart inverses letters lengths i k half x y p q (eqb-false x y (sym told ∙ e)))))
+
+      pub apart-second : form ≡ 1 → x ≡ letterPair letters i half → y ≡ letterPair letters k half → alike ≡ false → HalfAtMost form wi wk
+      apart-second z p q e =
+          rw z (half-words 1 (omega (arith, seam-second, halved, pairs-apart letters letters lengths i k half x y p q (eqb-false x y (sym told ∙ e)))))
+
+      pub apart-third : form ≡ 2 → x ≡ letterPair inverses k half → y ≡ letterPair letters i half → alike ≡ false → HalfAtMost form wi wk
+      apart-third z p q e =
+          rw z (half-words 2 (omega (arith, seam-third, halved, pairs-apart inverses letters lengths k i half x y p q (eqb-false x y (sym told ∙ e)))))
+
+      pub apart-fourth : form < 4 → (form ≡ 0 → ⊥) → (form ≡ 1 → ⊥) → (form ≡ 2 → ⊥) → x ≡ letterPair inverses k half
+          → y ≡ letterPair inverses i half → alike ≡ false → HalfAtMost form wi wk
+      apart-fourth h a b c p q e =
+          let z : form ≡ 3 = omega arith in
+          rw z (half-words 3 (omega (arith, seam-fourth, halved, pairs-apart inverses inverses lengths k i half x y p q (eqb-false x y (sym told ∙ e)))))
+
+    -- what the first form to be tried leaves out
+    module _ (shorter a b : ℕ) (least : shorter ≡ min a b) (size : a ≡ getD lengths i 0) (whole : b ≡ getD lengths k 0) where
+      pub forms-blank : shorter ≡ 0 → (form : ℕ) → form < 4 → HalfAtMost form wi wk
+      forms-blank blank form h =
+          half-words form (omega (
+            arith,
+            seam-le-other bytes byteLaws (formAt form) wi wk,
+            seam-le-changed bytes byteLaws (formAt form) wi wk,
+            held-size letters lengths i (omega (arith, few)) (here .wide) (here .short),
+            held-size letters lengths k (omega (arith, few)) (here .wide) (here .short),
+          ))
+
+      pub forms-apart : (other other-inverse changed changed-inverse : ℕ) {alike : Bool} → (shorter ≡ 0 → ⊥) → (shorter ≡ 1 → ⊥)
+          → other ≡ letterPair letters i 1 → other-inverse ≡ letterPair inverses i 1 → changed ≡ letterPair letters k 1
+          → changed-inverse ≡ letterPair inverses k 1
+          → alike ≡ (((eqb other-inverse changed || eqb other changed) || eqb changed-inverse other) || eqb changed-inverse other-inverse)
+          → alike ≡ false → (form : ℕ) → form < 4 → HalfAtMost form wi wk
+      forms-apart other other-inverse changed changed-inverse filled longer p q r t told e form h = half-words form (by form h)
+        where
+          sides : (eqb other-inverse changed ≡ false) × (eqb other changed ≡ false) × (eqb changed-inverse other ≡ false) × (eqb changed-inverse other-inverse ≡ false)
+          sides = none-of-four _ _ _ _ (sym told ∙ e)
+
+          by : (form : ℕ) → form < 4 → seam bytes (formAt form) wi wk ≤ min (getD lengths i 0) (getD lengths k 0) / 2
+          by zero h = omega (arith, seam-first, pairs-apart inverses letters lengths i k 1 other-inverse changed q r (eqb-false _ _ (sides .0)))
+          by (suc zero) h = omega (arith, seam-second, pairs-apart letters letters lengths i k 1 other changed p r (eqb-false _ _ (sides .1)))
+          by (suc (suc zero)) h = omega (arith, seam-third, pairs-apart inverses letters lengths k i 1 changed-inverse other t p (eqb-false _ _ (sides .2)))
+          by (suc (suc (suc zero))) h =
+              omega (arith, seam-fourth, pairs-apart inverses inverses lengths k i 1 changed-inverse other-inverse t q (eqb-false _ _ (sides .3)))
+          by (suc (suc (suc (suc m)))) h = absurd (omega arith)
 
 -- a pair of which at most half of the other word cancels in each form
 module _ (S : List (List ℕ)) (freely : FreelyReduced bytes S) (k i : ℕ) where
@@ -92,11 +192,12 @@ seam-back u v most told (suc (suc (suc zero))) h =
     )
 seam-back u v most told (suc (suc (suc (suc j)))) h = absurd (omega arith)
 
-pair-back : (S : List (List ℕ)) (k i most : ℕ) → FreelyReduced bytes S
-    → ((j : ℕ) → j < 4 → seam bytes (formAt j) (word bytes S i) (word bytes S k) ≤ most) → 2 * most ≤ length (word bytes S k)
-    → tryOther bytes S i k ≡ none
-pair-back S k i most freely told half =
-    pair-none S freely i k (λ j l. omega (arith, seam-back (word bytes S i) (word bytes S k) most told j l))
+pair-back : (S : List (List ℕ)) (k i : ℕ) → FreelyReduced bytes S
+    → ((j : ℕ) → j < 4 → 2 * seam bytes (formAt j) (word bytes S i) (word bytes S k) ≤ length (word bytes S k)) → tryOther bytes S i k ≡ none
+pair-back S k i freely told =
+    let wi : List ℕ = word bytes S i in
+    let wk : List ℕ = word bytes S k in
+    pair-none S freely i k (λ j l. omega (arith, seam-back wi wk (length wk / 2) (λ m h. omega (arith, told m h)) j l))
 
 -- the words and what is known of the pairs as a search is given them
 pub record Ready (letters lengths marks : List ℕ) (n last : ℕ) : Type 0 where
@@ -121,14 +222,15 @@ pub record Others (letters lengths marks : List ℕ) (n last k i end : ℕ) (fou
   pub before-i : (j : ℕ) → j < i → j < n → tryOther bytes (held n letters lengths) k j ≡ none
   pub from-end : (j : ℕ) → end ≤ j → j < n → tryOther bytes (held n letters lengths) k j ≡ none
 
--- nor slot k by slot i in an earlier form; no count was above the most
+-- nor slot k by slot i in an earlier form; no count was above the most, or at most half of slot k's word was
 pub record Forms (letters lengths marks : List ℕ) (n last k i end form most : ℕ) (found : Found) : Type 0 where
   pub others : Others letters lengths marks n last k i end found
   pub i-inside : i < end
   pub apart : i ≡ k → ⊥
   pub form-within : form ≤ 4
   pub before-form : first (λ j. tryForm bytes (held n letters lengths) k i (formAt j)) form ≡ none
-  pub counts : (j : ℕ) → j < form → seam bytes (formAt j) (heldWord letters lengths i) (heldWord letters lengths k) ≤ most
+  pub counts : (j : ℕ) → j < form
+      → 2 * seam bytes (formAt j) (heldWord letters lengths i) (heldWord letters lengths k) ≤ max (2 * most) (length (heldWord letters lengths k))
 
 pub changed-begin : (letters lengths marks : List ℕ) (n last : ℕ) → Held n letters lengths → last ≤ n - 1 → length marks ≡ 256
     → Marked n (held n letters lengths) marks → Settled n (held n letters lengths) last → Changed letters lengths marks n last 0 Nothing
@@ -163,16 +265,22 @@ module _ (letters lengths marks : List ℕ) (n last k : ℕ) (found : Found) whe
   changed-below c = rw (c .nothing) tt
 
   module _ (i end : ℕ) where
-    pub forms-begin : Others letters lengths marks n last k i end found → i < end → {fresh : Bool} → (fresh ≡ true → i ≡ k → ⊥) → fresh ≡ true
-        → Forms letters lengths marks n last k i end 0 0 found
-    forms-begin o h apart t =
+    pub forms-begin : (form : ℕ) → Others letters lengths marks n last k i end found → i < end → {fresh : Bool} → (fresh ≡ true → i ≡ k → ⊥) → fresh ≡ true
+        → form ≤ 4 → ((j : ℕ) → j < form → HalfAtMost j (heldWord letters lengths i) (heldWord letters lengths k))
+        → Forms letters lengths marks n last k i end form 0 found
+    forms-begin form o h apart t within told =
+        let r = o .changed .ready in
+        let mine : word bytes (held n letters lengths) i ≡ heldWord letters lengths i = held-word n i letters lengths (omega (arith, o .end-within)) in
+        let yours : word bytes (held n letters lengths) k ≡ heldWord letters lengths k = held-word n k letters lengths (o .k-inside) in
         record {
           others = o;
           i-inside = h;
           apart = apart t;
-          form-within = omega arith;
-          before-form = refl;
-          counts = λ j l. absurd (omega arith);
+          form-within = within;
+          before-form =
+              first-nowhere (λ (j : ℕ). tryForm bytes (held n letters lengths) k i (formAt j)) form
+              (λ j l. form-none (held n letters lengths) (r .here .freely) k i (formAt j) (rw (mine, yours) (told j l .0)));
+          counts = λ j l. omega (arith, told j l .1);
         }
 
     -- slots before i + 1
@@ -240,26 +348,33 @@ module _ (letters lengths marks : List ℕ) (n last k : ℕ) (found : Found) whe
 
       back-missed : 4 ≤ form → 2 * most ≤ length (heldWord letters lengths k) → tryOther bytes (held n letters lengths) i k ≡ none
       back-missed h half =
-          pair-back (held n letters lengths) k i most (f .others .changed .ready .here .freely)
-          (λ j l. rw (mine, yours) (f .counts j (omega arith))) (rw yours half)
+          pair-back (held n letters lengths) k i (f .others .changed .ready .here .freely)
+          (λ j l. rw (mine, yours) (omega (arith, f .counts j (omega arith))))
+
+      here : Held n letters lengths
+      here = f .others .changed .ready .here
+
+      size-k : length (heldWord letters lengths k) ≡ getD lengths k 0
+      size-k = held-size letters lengths k (omega (arith, here .few, f .others .k-inside)) (here .wide) (here .short)
+
+      size-i : length (heldWord letters lengths i) ≡ getD lengths i 0
+      size-i = held-size letters lengths i (omega (arith, here .few, i-within)) (here .wide) (here .short)
 
       -- a pair that was tried and failed is marked, both ways round where at most half of either word cancels
-      pair-marked : 4 ≤ form → (marks′ : List ℕ) (changed : List ℕ) (both : Bool) → both ≡ leb (2 * most) (length changed)
-          → changed ≡ heldWord letters lengths k → Added (λ a b. ((a ≡ k) × (b ≡ i)) ⊎ ((both ≡ true) × (a ≡ i) × (b ≡ k))) marks marks′
-          → Marked n (held n letters lengths) marks′
-      pair-marked h marks′ changed both told mine added =
+      pair-marked : 4 ≤ form → (marks′ : List ℕ) (whole : ℕ) (both : Bool) → both ≡ leb (2 * most) whole → whole ≡ getD lengths k 0
+          → Added (λ a b. ((a ≡ k) × (b ≡ i)) ⊎ ((both ≡ true) × (a ≡ i) × (b ≡ k))) marks marks′ → Marked n (held n letters lengths) marks′
+      pair-marked h marks′ whole both told sized added =
           let r = f .others .changed .ready in
           marked-more n (held n letters lengths) (λ a b. ((a ≡ k) × (b ≡ i)) ⊎ ((both ≡ true) × (a ≡ i) × (b ≡ k))) marks marks′ (r .here .few)
           (r .marked) added (λ a b a-in b-in p. elim p [
             | inl s ↦ rw (s .0, s .1) (pair-missed h)
-            | inr s ↦
-                rw (s .1, s .2) (back-missed h (leb-true _ _ (sym (told ∙ ap (λ (w : List ℕ). leb (2 * most) (length w)) mine) ∙ s .0)))
+            | inr s ↦ rw (s .1, s .2) (back-missed h (omega (arith, leb-true (2 * most) whole (sym told ∙ s .0), sized, size-k)))
           ])
 
-      pub forms-end : (marks″ marks′ : List ℕ) (found′ : Found) (changed : List ℕ) (both : Bool) → marks″ ≡ marks′ → found′ ≡ found
-          → changed ≡ heldWord letters lengths k → Added (λ a b. ((a ≡ k) × (b ≡ i)) ⊎ ((both ≡ true) × (a ≡ i) × (b ≡ k))) marks marks′ → both ≡ leb (2 * most) (length changed) → 4 ≤ form
+      pub forms-end : (marks″ marks′ : List ℕ) (found′ : Found) (whole : ℕ) (both : Bool) → marks″ ≡ marks′ → found′ ≡ found
+          → whole ≡ getD lengths k 0 → Added (λ a b. ((a ≡ k) × (b ≡ i)) ⊎ ((both ≡ true) × (a ≡ i) × (b ≡ k))) marks marks′ → both ≡ leb (2 * most) whole → 4 ≤ form
           → length marks′ ≡ length marks → Others letters lengths marks″ n last k (i + 1) end found′
-      forms-end marks″ marks′ found′ changed both p q mine added told h same =
+      forms-end marks″ marks′ found′ whole both p q sized added told h same =
           let o = f .others in
           let r = o .changed .ready in
           rw (p, q) (record {
@@ -268,7 +383,7 @@ module _ (letters lengths marks : List ℕ) (n last k : ℕ) (found : Found) whe
                 here = r .here;
                 last-within = r .last-within;
                 long = same ∙ r .long;
-                marked = pair-marked h marks′ changed both told mine added;
+                marked = pair-marked h marks′ whole both told sized added;
                 settled = r .settled;
               };
               nothing = o .changed .nothing;
@@ -281,44 +396,54 @@ module _ (letters lengths marks : List ℕ) (n last k : ℕ) (found : Found) whe
             from-end = o .from-end;
           })
 
-      module _ (c : ℕ) (other changed : List ℕ) (told : c ≡ seam bytes (formAt form) other changed)
-          (here : other ≡ heldWord letters lengths i) (there : changed ≡ heldWord letters lengths k) where
-        told-words : c ≡ seam bytes (formAt form) (heldWord letters lengths i) (heldWord letters lengths k)
-        told-words = told ∙ ap₂ (seam bytes (formAt form)) here there
+      form-missed : 2 * seam bytes (formAt form) (heldWord letters lengths i) (heldWord letters lengths k) ≤ length (heldWord letters lengths i)
+          → tryForm bytes (held n letters lengths) k i (formAt form) ≡ none
+      form-missed h = form-none (held n letters lengths) (here .freely) k i (formAt form) (rw (mine, yours) h)
 
+      -- a form passed, whether it was counted or not
+      forms-next : (most′ : ℕ) → form < 4 → most ≤ most′
+          → 2 * seam bytes (formAt form) (heldWord letters lengths i) (heldWord letters lengths k) ≤ length (heldWord letters lengths i)
+          → 2 * seam bytes (formAt form) (heldWord letters lengths i) (heldWord letters lengths k) ≤ max (2 * most′) (length (heldWord letters lengths k))
+          → Forms letters lengths marks n last k i end (form + 1) most′ found
+      forms-next most′ h more missed counted =
+          record {
+            others = f .others;
+            i-inside = f .i-inside;
+            apart = f .apart;
+            form-within = omega arith;
+            before-form =
+                first-more-one (λ (j : ℕ). tryForm bytes (held n letters lengths) k i (formAt j)) form (f .before-form) (form-missed missed);
+            counts = λ j l. elim (decLt j form) [
+              | yes a ↦ omega (arith, f .counts j a)
+              | no a ↦ let p : j ≡ form = omega arith in rw p counted
+            ];
+          }
+
+      pub forms-pass : (most′ : ℕ) (found′ : Found) {close : Bool} → form < 4 → most′ ≡ most → found′ ≡ found
+          → (close ≡ false → HalfAtMost form (heldWord letters lengths i) (heldWord letters lengths k)) → close ≡ false
+          → Forms letters lengths marks n last k i end (form + 1) most′ found′
+      forms-pass most′ found′ h same same-found told e =
+          let small = told e in
+          rw same-found (forms-next most′ h (omega arith) (small .0) (omega (arith, small .1)))
+
+      module _ (c size : ℕ) (told : c ≡ seam bytes (formAt form) (heldWord letters lengths i) (heldWord letters lengths k)) (sized : size ≡ getD lengths i 0) where
         -- more than half of the other word cancels: "the freely reduced result is strictly shorter than w(k)"
-        form-found : length other < 2 * c → tryForm bytes (held n letters lengths) k i (formAt form) ≡ some (record { changed = k; form = formAt form; other = i })
+        form-found : size < 2 * c → tryForm bytes (held n letters lengths) k i (formAt form) ≡ some (record { changed = k; form = formAt form; other = i })
         form-found h =
             let S : List (List ℕ) = held n letters lengths in
-            let freely : FreelyReduced bytes S = f .others .changed .ready .here .freely in
+            let freely : FreelyReduced bytes S = here .freely in
             try-shorter bytes byteLaws S k i (formAt form)
             (formed-shorter bytes byteLaws (formAt form) (word bytes S i) (word bytes S k) (freely i) (freely k) .1
-            (rw (mine, yours) (omega (arith, told-words, ap length here))))
+            (rw (mine, yours) (omega (arith, told, sized, size-i))))
 
-        form-missed : 2 * c ≤ length other → tryForm bytes (held n letters lengths) k i (formAt form) ≡ none
-        form-missed h =
-            form-none (held n letters lengths) (f .others .changed .ready .here .freely) k i (formAt form)
-            (rw (mine, yours) (omega (arith, told-words, ap length here)))
-
-        -- a form that fails
-        pub forms-turn : (most′ : ℕ) → form < 4 → 2 * c ≤ length other → most′ ≡ max most c
-            → Forms letters lengths marks n last k i end (form + 1) most′ found
-        forms-turn most′ h t e =
-            record {
-              others = f .others;
-              i-inside = f .i-inside;
-              apart = f .apart;
-              form-within = omega arith;
-              before-form =
-                  first-more-one (λ (j : ℕ). tryForm bytes (held n letters lengths) k i (formAt j)) form (f .before-form) (form-missed t);
-              counts = λ j l. elim (decLt j form) [
-                | yes a ↦ omega (arith, f .counts j a)
-                | no a ↦ let p : j ≡ form = omega arith in rw p (omega (arith, told-words))
-              ];
-            }
+        -- a form that was counted and fails
+        pub forms-turn : (most₁ most′ : ℕ) (found′ : Found) → form < 4 → 2 * c ≤ size → most₁ ≡ max most c → most′ ≡ most₁ → found′ ≡ found
+            → Forms letters lengths marks n last k i end (form + 1) most′ found′
+        forms-turn most₁ most′ found′ h t e same same-found =
+            rw same-found (forms-next most′ h (omega arith) (omega (arith, told, sized, size-i)) (omega (arith, told)))
 
         -- "The first pair and form found in this order is the move made."
-        pub forms-found : form < 4 → length other < 2 * c
+        pub forms-found : form < 4 → size < 2 * c
             → some (record { changed = k; form = formAt form; other = i }) ≡ shortening bytes (held n letters lengths)
         forms-found h t =
             let S : List (List ℕ) = held n letters lengths in
@@ -326,6 +451,9 @@ module _ (letters lengths marks : List ℕ) (n last k : ℕ) (found : Found) whe
             (omega (arith, held-length n letters lengths, f .others .k-inside)) (f .others .changed .before-k)
             (omega (arith, held-length n letters lengths, i-within))
             (first-nowhere (tryOther bytes S k) i (λ j l. f .others .before-i j l (omega (arith, i-within)))) (f .apart) h (f .before-form) (form-found t))
+
+      pub pair-inside : (k < n) × (i < n)
+      pair-inside = (f .others .k-inside, i-within)
 
       pub forms-below : form < 4 → (k < n) × (i < n) × (form < 4) × (k ≡ i → ⊥)
       forms-below h = (f .others .k-inside, i-within, h, λ e. f .apart (sym e))

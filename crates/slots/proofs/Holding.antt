@@ -43,6 +43,12 @@ held-length n letters lengths = below-length (heldWord letters lengths) n
 pub held-word : (n k : ℕ) (letters lengths : List ℕ) → k < n → getD (held n letters lengths) k [] ≡ heldWord letters lengths k
 held-word n k letters lengths h = below-at (heldWord letters lengths) n k [] h
 
+-- a held word has the length that is held for it
+pub held-size : (letters lengths : List ℕ) (k : ℕ) → k < 16 → length letters ≡ 1024 → Short lengths
+    → length (heldWord letters lengths k) ≡ getD lengths k 0
+held-size letters lengths k inside wide short =
+    length-take-le (getD lengths k 0) (drop (k * 64) letters) (rw (length-drop (k * 64) letters) (omega (arith, short k)))
+
 -- it has at most 63 letters and is freely reduced
 pub held-short : (letters lengths w : List ℕ) (k : ℕ) → Short lengths → w ≡ heldWord letters lengths k → length w ≤ 63
 held-short letters lengths w k short e = rw (e, length-take (getD lengths k 0) (drop (k * 64) letters)) (omega (arith, short k))
@@ -51,17 +57,22 @@ pub held-reduced : (letters lengths w : List ℕ) (n k : ℕ) → Held n letters
 held-reduced letters lengths w n k here inside e =
     freelyReduce-same bytes byteLaws w (rw (e, ← held-word n k letters lengths inside) (here .freely k))
 
--- a store at slot k: the letters outside its 64 places stay, and so do the other lengths
+-- letters stored at slot k: those outside its 64 places stay, and so do the other words
+pub word-stays : (k : ℕ) (letters letters′ lengths : List ℕ) → Short lengths → take (k * 64) letters′ ≡ take (k * 64) letters
+    → drop (k * 64 + 64) letters′ ≡ drop (k * 64 + 64) letters → (j : ℕ) → (j ≡ k → ⊥) → heldWord letters′ lengths j ≡ heldWord letters lengths j
+word-stays k letters letters′ lengths short below above j apart = elim (decLt j k) [
+  | yes l ↦ part-before (j * 64) (getD lengths j 0) (k * 64) letters′ letters (omega (arith, short j)) below
+  | no m ↦ part-after (j * 64) (getD lengths j 0) (k * 64 + 64) letters′ letters (omega arith) above
+]
+
+-- a word stored at slot k, with its length
 module _ (k r : ℕ) (letters letters′ lengths : List ℕ) (short : Short lengths) (inside : k < length lengths)
     (below : take (k * 64) letters′ ≡ take (k * 64) letters)
     (above : drop (k * 64 + 64) letters′ ≡ drop (k * 64 + 64) letters) where
   pub other-stays : (j : ℕ) → (j ≡ k → ⊥) → heldWord letters′ (set lengths k r) j ≡ heldWord letters lengths j
   other-stays j apart =
-      ap (λ (l : ℕ). take l (drop (j * 64) letters′)) (getD-set-other lengths k j r 0 apart) ∙ go (decLt j k)
-    where
-      go : Dec (j < k) → take (getD lengths j 0) (drop (j * 64) letters′) ≡ take (getD lengths j 0) (drop (j * 64) letters)
-      go (yes l) = part-before (j * 64) (getD lengths j 0) (k * 64) letters′ letters (omega (arith, short j)) below
-      go (no m) = part-after (j * 64) (getD lengths j 0) (k * 64 + 64) letters′ letters (omega arith) above
+      ap (λ (l : ℕ). take l (drop (j * 64) letters′)) (getD-set-other lengths k j r 0 apart)
+      ∙ word-stays k letters letters′ lengths short below above j apart
 
   pub this-is : heldWord letters′ (set lengths k r) k ≡ take r (drop (k * 64) letters′)
   this-is = ap (λ (l : ℕ). take l (drop (k * 64) letters′)) (getD-set-same lengths k r 0 inside)

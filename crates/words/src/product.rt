@@ -10,7 +10,7 @@ use crate::letters::copy;
 use crate::letters::flip;
 
 // Puts the inverse of a word after the first n letters of a buffer.
-fn append_inverse(stack: &mut [u8], n: usize, word: &[u8])
+pub fn append_inverse(stack: &mut [u8], n: usize, word: &[u8])
     requires { ⌜ n + length (now word) ≤ length (now stack) ⌝ }
     ensures { λ _. ⌜ take (n + length (now (word .entry))) (now (stack .exit)) ≡ take n (now (stack .entry)) ++ inverse bytes (now (word .entry)) ⌝ }
 {

@@ -14,13 +14,13 @@ returns-2 : tie.Need-returns-2
 returns-2 c = search (unqualified-odd, needs)
 
 half-elsewhere-requires : tie.Need-half-elsewhere-requires
-half-elsewhere-requires c κs = search needs
+half-elsewhere-requires c κs = (search needs, (search needs, (search needs, search needs)))
 
 returns-3 : tie.Need-returns-3
 returns-3 c = search (unqualified-front, needs)
 
 half-elsewhere-requires-2 : tie.Need-half-elsewhere-requires-2
-half-elsewhere-requires-2 c κs = search needs
+half-elsewhere-requires-2 c κs = (search needs, (search needs, (search needs, search needs)))
 
 returns-4 : tie.Need-returns-4
 returns-4 c = search (qualified-back, needs)

@@ -4,27 +4,20 @@ use mathlib.Core.Bool.{false}
 use mathlib.Core.Logic.{⊎-elim}
 use mathlib.Core.Path.{_≡_}
 use borrow.Author.Needs.{needs}
-use Rattle.slots.specs.Held.{heldWord, held}
+use Rattle.slots.specs.Held.{held}
 use Rattle.half_ends.proofs.HalfSearch.{elsewhere-begin, elsewhere-end, elsewhere-met, elsewhere-own, elsewhere-turn}
 use Rattle.half_ends.specs.HalfEnds.{halfElsewhere}
 use Rattle.half_ends.proofs.half_elsewhere.Statement.{statement}
 use Rattle.half_ends.proofs.half_elsewhere.Tie as tie
 
 abbrev Inv-loop : tie.InvT-loop
-Inv-loop inverted letters lengths n h whole i₀ i =
-    (i ≤ n) × (whole ≡ heldWord letters lengths h) × (halfElsewhere inverted i (held n letters lengths) h ≡ false)
+Inv-loop inverted letters inverses lengths n h i₀ i = (i ≤ n) × (halfElsewhere inverted i (held n letters lengths) h ≡ false)
 
 abbrev μ-loop : tie.MeasureT-loop
-μ-loop inverted letters lengths n h whole i₀ i = n - i
-
-word-at-requires : tie.Need-word-at-requires Inv-loop μ-loop
-word-at-requires c κs = search needs
+μ-loop inverted letters inverses lengths n h i₀ i = n - i
 
 loop-holds : tie.Need-loop-holds Inv-loop μ-loop
 loop-holds c = search (elsewhere-begin, needs)
-
-word-at-requires-2 : tie.Need-word-at-requires-2 Inv-loop μ-loop
-word-at-requires-2 c κs = search needs
 
 meets-half-requires : tie.Need-meets-half-requires Inv-loop μ-loop
 meets-half-requires c κs = search needs
@@ -40,7 +33,7 @@ loop-less c = search needs
 
 loop-again : tie.Need-loop-again Inv-loop μ-loop
 loop-again c =
-    (search needs, search needs, ⊎-elim (λ w. search (elsewhere-turn, needs)) (λ w. search (elsewhere-own, needs)) (c .if1 .came))
+    (search needs, ⊎-elim (λ w. search (elsewhere-turn, needs)) (λ w. search (elsewhere-own, needs)) (c .if1 .came))
 
 returns-2 : tie.Need-returns-2 Inv-loop μ-loop
 returns-2 c = search (elsewhere-end, needs)
@@ -51,9 +44,7 @@ half-elsewhere-spec =
     (tie.spec
     Inv-loop
     μ-loop
-    word-at-requires
     loop-holds
-    word-at-requires-2
     meets-half-requires
     returns
     add-i

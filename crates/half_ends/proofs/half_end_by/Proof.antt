@@ -9,10 +9,10 @@ use Rattle.half_ends.proofs.half_end_by.Statement.{statement}
 use Rattle.half_ends.proofs.half_end_by.Tie as tie
 
 abbrev Inv-loop : tie.InvT-loop
-Inv-loop letters lengths n h whole half k₀ k = (k ≤ n) × (whole ≡ heldWord letters lengths h) × Kept letters lengths n h k
+Inv-loop letters inverses lengths n h other-inverse half k₀ k = (k ≤ n) × (other-inverse ≡ heldWord inverses lengths h) × Kept letters lengths n h k
 
 abbrev μ-loop : tie.MeasureT-loop
-μ-loop letters lengths n h whole half k₀ k = n - k
+μ-loop letters inverses lengths n h other-inverse half k₀ k = n - k
 
 word-at-requires : tie.Need-word-at-requires Inv-loop μ-loop
 word-at-requires c κs = search needs
@@ -23,14 +23,17 @@ loop-holds c = search (kept-begin, needs)
 word-at-requires-2 : tie.Need-word-at-requires-2 Inv-loop μ-loop
 word-at-requires-2 c κs = search needs
 
-common-suffix-requires : tie.Need-common-suffix-requires Inv-loop μ-loop
-common-suffix-requires c κs = search needs
+common-prefix-requires : tie.Need-common-prefix-requires Inv-loop μ-loop
+common-prefix-requires c κs = search needs
 
 returns : tie.Need-returns Inv-loop μ-loop
 returns c = (search (kept-at-end, needs), search needs)
 
-cancellation-requires : tie.Need-cancellation-requires Inv-loop μ-loop
-cancellation-requires c κs = search needs
+word-at-requires-3 : tie.Need-word-at-requires-3 Inv-loop μ-loop
+word-at-requires-3 c κs = search needs
+
+common-prefix-requires-2 : tie.Need-common-prefix-requires-2 Inv-loop μ-loop
+common-prefix-requires-2 c κs = search needs
 
 returns-2 : tie.Need-returns-2 Inv-loop μ-loop
 returns-2 c = (search (kept-at-beginning, needs), search needs)
@@ -57,9 +60,10 @@ half-end-by-spec =
     word-at-requires
     loop-holds
     word-at-requires-2
-    common-suffix-requires
+    common-prefix-requires
     returns
-    cancellation-requires
+    word-at-requires-3
+    common-prefix-requires-2
     returns-2
     add-k
     loop-less

@@ -8,10 +8,10 @@ use Rattle.half_ends.proofs.shortest_slot.Statement.{statement}
 use Rattle.half_ends.proofs.shortest_slot.Tie as tie
 
 abbrev Inv-loop : tie.InvT-loop
-Inv-loop letters lengths n best₀ least₀ k₀ best least k = (k ≤ n) × Best (held n letters lengths) n k best least
+Inv-loop letters inverses lengths n best₀ least₀ k₀ best least k = (k ≤ n) × Best (held n letters lengths) n k best least
 
 abbrev μ-loop : tie.MeasureT-loop
-μ-loop letters lengths n best₀ least₀ k₀ best least k = n - k
+μ-loop letters inverses lengths n best₀ least₀ k₀ best least k = n - k
 
 loop-holds : tie.Need-loop-holds Inv-loop μ-loop
 loop-holds c = search (best-begin, needs)

@@ -1,63 +1,86 @@
 -- `shortening::find_shortening` meets its contract. The invariants of the three loops: nothing is found before slot k, nor before
--- slot i with k, nor before the form with k and i; the table of pairs stays true. The measures are what is left to try.
+-- slot i with k, nor before the form with k and i; the table of pairs stays true, and each slot's inverse is its word's. The measures are
+-- what is left to try.
 use Prim.Native.Nat.{_-_, _≤_}
 use mathlib.Core.Logic.{⊎-elim}
-use mathlib.Core.Path.{_≡_}
-use lib.ListN.{length}
+use mathlib.Core.Path.{_≡_, _∙_, refl, sym}
+use native.Mathlib.Omega.{arith}
+use lib.ListN.{getD, length}
 use borrow.Author.Needs.{needs}
-use Rattle.slots.specs.Held.{heldWord}
-use Rattle.shortening.proofs.Searching.{Changed, Others, Forms, changed-begin, others-begin, forms-begin, forms-turn, forms-end, others-stale, others-end, changed-end, changed-below, forms-found, forms-below}
+use Rattle.inverses.specs.Inverses.{Inverted}
+use Rattle.shortening.proofs.Searching.{Changed, Others, Forms, changed-begin, others-begin, forms-begin, forms-turn, forms-pass, forms-end, others-stale, others-end, changed-end, changed-below, forms-found, forms-below, pair-inside, slot-length}
 use Rattle.shortening.proofs.find_shortening.Statement.{statement}
 use Rattle.shortening.proofs.find_shortening.Tie as tie
 
 abbrev Inv-loop2 : tie.InvT-loop2
-Inv-loop2 letters lengths n last marks found₀ k changed i end fresh other size most₀ form₀ found most form =
-    Forms letters lengths marks n last k i end form most found × (changed ≡ heldWord letters lengths k) × (other ≡ heldWord letters lengths i) × (size ≡ length other) × (most ≤ length other) × (length marks ≡ 256)
+Inv-loop2 letters inverses lengths n last marks found₀ k whole i end fresh size most₀ form₀ found most form =
+    Forms letters lengths marks n last k i end form most found × (whole ≡ getD lengths k 0) × (size ≡ getD lengths i 0) × (most ≤ 63) × (length marks ≡ 256) × Inverted n letters inverses lengths
 
 abbrev μ-loop2 : tie.MeasureT-loop2
-μ-loop2 letters lengths n last marks found₀ k changed i end fresh other size most₀ form₀ found most form = 4 - form
+μ-loop2 letters inverses lengths n last marks found₀ k whole i end fresh size most₀ form₀ found most form = 4 - form
 
 abbrev Inv-loop : tie.InvT-loop
-Inv-loop letters lengths n last marks₀ found₀ k changed i₀ end marks found i = Others letters lengths marks n last k i end found × (changed ≡ heldWord letters lengths k)
+Inv-loop letters inverses lengths n last marks₀ found₀ k whole i₀ end marks found i =
+    Others letters lengths marks n last k i end found × (whole ≡ getD lengths k 0) × Inverted n letters inverses lengths
 
 abbrev μ-loop : tie.MeasureT-loop
-μ-loop letters lengths n last marks₀ found₀ k changed i₀ end marks found i = end - i
+μ-loop letters inverses lengths n last marks₀ found₀ k whole i₀ end marks found i = end - i
 
 abbrev Inv-search : tie.InvT-search
-Inv-search letters lengths n last marks₀ found₀ k₀ marks found k = Changed letters lengths marks n last k found
+Inv-search letters inverses lengths n last marks₀ found₀ k₀ marks found k =
+    Changed letters lengths marks n last k found × Inverted n letters inverses lengths
 
 abbrev μ-search : tie.MeasureT-search
-μ-search letters lengths n last marks₀ found₀ k₀ marks found k = n - k
+μ-search letters inverses lengths n last marks₀ found₀ k₀ marks found k = n - k
 
 search-holds : tie.Need-search-holds Inv-loop2 μ-loop2 Inv-loop μ-loop Inv-search μ-search
-search-holds c = search (changed-begin, needs)
+search-holds c = (search (changed-begin, needs), search needs)
 
-word-at-requires : tie.Need-word-at-requires Inv-loop2 μ-loop2 Inv-loop μ-loop Inv-search μ-search
-word-at-requires c κs = search needs
+length-of-requires :
+    tie.Need-length-of-requires Inv-loop2 μ-loop2 Inv-loop μ-loop Inv-search μ-search
+length-of-requires c κs = slot-length _ _ _ _ (c .before .search .inv .0 .ready .here) (c .search-test .taken)
 
 others-of-requires :
     tie.Need-others-of-requires Inv-loop2 μ-loop2 Inv-loop μ-loop Inv-search μ-search
 others-of-requires c κs = search needs
 
 loop-holds : tie.Need-loop-holds Inv-loop2 μ-loop2 Inv-loop μ-loop Inv-search μ-search
-loop-holds c = (search (others-begin, needs), search needs)
+loop-holds c = (search (others-begin, needs), search needs, search needs)
 
 is-fresh-requires :
     tie.Need-is-fresh-requires Inv-loop2 μ-loop2 Inv-loop μ-loop Inv-search μ-search
 is-fresh-requires c κs = search needs
 
-word-at-requires-2 :
-    tie.Need-word-at-requires-2 Inv-loop2 μ-loop2 Inv-loop μ-loop Inv-search μ-search
-word-at-requires-2 c κs = search needs
+length-of-requires-2 :
+    tie.Need-length-of-requires-2 Inv-loop2 μ-loop2 Inv-loop μ-loop Inv-search μ-search
+length-of-requires-2 c κs =
+    let inside = c .before .before .before in
+    let others = inside .before .loop .inv .0 in
+    slot-length _ _ _ _ (others .changed .ready .here) (omega (arith, inside .loop-test .taken, others .end-within))
+
+first-form-requires :
+    tie.Need-first-form-requires Inv-loop2 μ-loop2 Inv-loop μ-loop Inv-search μ-search
+first-form-requires c κs = search needs
 
 loop2-holds : tie.Need-loop2-holds Inv-loop2 μ-loop2 Inv-loop μ-loop Inv-search μ-search
 loop2-holds c = (search (forms-begin, needs), search needs, search needs, search needs, search needs, search needs)
 
-seam-of-requires : tie.Need-seam-of-requires Inv-loop2 μ-loop2 Inv-loop μ-loop Inv-search μ-search
-seam-of-requires c κs = search needs
+is-close-requires :
+    tie.Need-is-close-requires Inv-loop2 μ-loop2 Inv-loop μ-loop Inv-search μ-search
+is-close-requires c κs =
+    let tried = c .before .loop2 .inv in
+    let pair = pair-inside _ _ _ _ _ _ _ _ _ _ _ (tried .0) in
+    ((c .loop2-test .taken, pair .0, pair .1), (tried .0 .others .changed .ready .here, tried .5))
 
-mul-if2 : tie.Need-mul-if2 Inv-loop2 μ-loop2 Inv-loop μ-loop Inv-search μ-search
-mul-if2 c = search needs
+seam-of-requires : tie.Need-seam-of-requires Inv-loop2 μ-loop2 Inv-loop μ-loop Inv-search μ-search
+seam-of-requires c κs =
+    let inside = c .before .before in
+    let tried = inside .before .loop2 .inv in
+    let pair = pair-inside _ _ _ _ _ _ _ _ _ _ _ (tried .0) in
+    ((inside .loop2-test .taken, pair .0, pair .1), (tried .0 .others .changed .ready .here, tried .5))
+
+mul-if3 : tie.Need-mul-if3 Inv-loop2 μ-loop2 Inv-loop μ-loop Inv-search μ-search
+mul-if3 c = search needs
 
 greatest-requires :
     tie.Need-greatest-requires Inv-loop2 μ-loop2 Inv-loop μ-loop Inv-search μ-search
@@ -71,15 +94,17 @@ loop2-less c = search needs
 
 loop2-again : tie.Need-loop2-again Inv-loop2 μ-loop2 Inv-loop μ-loop Inv-search μ-search
 loop2-again c =
-    let counted = c .before .before in
-    let tried = counted .before .before .loop2 .inv in
-    let count = counted .seam-of .ensures .0 in (
-      forms-turn _ _ _ _ _ _ _ _ _ _ _ (tried .0) _ _ _ count (tried .2) (tried .1) _ (search needs) (search needs) (search needs),
-      search needs,
-      search needs,
-      search needs,
-      search needs,
-      search needs,
+    let inside = c .before .before in
+    let tried = inside .before .loop2 .inv in (
+      ⊎-elim
+          (λ w. forms-turn _ _ _ _ _ _ _ _ _ _ _ (tried .0) _ _ (w .1 .ensures .0) (tried .2) _ _ _ (inside .loop2-test .taken) (w .2 .left) (w .3 .ensures) (w .4) refl)
+          (λ w. forms-pass _ _ _ _ _ _ _ _ _ _ _ (tried .0) _ _ (inside .loop2-test .taken) (w .1) refl (c .before .is-close .ensures) (w .0 .left))
+          (c .if2 .came),
+      tried .1,
+      tried .2,
+      ⊎-elim (λ w. omega (arith, tried .3, w .1 .ensures .1, w .3 .ensures, w .4)) (λ w. omega (arith, tried .3, w .1)) (c .if2 .came),
+      tried .4,
+      tried .5,
     )
 
 mul-both : tie.Need-mul-both Inv-loop2 μ-loop2 Inv-loop μ-loop Inv-search μ-search
@@ -98,12 +123,10 @@ loop-again : tie.Need-loop-again Inv-loop2 μ-loop2 Inv-loop μ-loop Inv-search 
 loop-again c = (
   ⊎-elim
       (λ w.
-      let tried = w .2 .inv in
-      let marked = w .5 .ensures in
-      let same-marks = w .8 in
-      let same-found = w .9 in
-      forms-end _ _ _ _ _ _ _ _ _ _ _ (tried .0) _ _ _ _ _ same-marks same-found (tried .1) marked (search needs) (search needs) (search needs))
+      let tried = w .3 .inv in
+      forms-end _ _ _ _ _ _ _ _ _ _ _ (tried .0) _ _ _ _ _ (w .9) (w .10) (tried .1) (w .6 .ensures) (search needs) (search needs) (search needs))
       (λ w. search (others-stale, needs)) (c .if1 .came),
+  search needs,
   search needs,
 )
 
@@ -114,7 +137,7 @@ search-less : tie.Need-search-less Inv-loop2 μ-loop2 Inv-loop μ-loop Inv-searc
 search-less c = search needs
 
 search-again : tie.Need-search-again Inv-loop2 μ-loop2 Inv-loop μ-loop Inv-search μ-search
-search-again c = search (others-end, needs)
+search-again c = (search (others-end, needs), search needs)
 
 same-length : tie.Need-same-length Inv-loop2 μ-loop2 Inv-loop μ-loop Inv-search μ-search
 same-length c = search needs
@@ -124,10 +147,17 @@ returns c = (search (changed-end, needs), (search (changed-below, needs), search
 
 same-length-2 : tie.Need-same-length-2 Inv-loop2 μ-loop2 Inv-loop μ-loop Inv-search μ-search
 same-length-2 c =
-    search needs
+    let searching = c .before .before .before .before .before .before .before .before .before .before .before .before .before .before .before in
+    let start = searching .before .before .before .before .before .before in
+    c .before .before .before .before .before .loop2 .inv .4 ∙ sym (start .pre .1 .1 .1 .0)
 
 returns-2 : tie.Need-returns-2 Inv-loop2 μ-loop2 Inv-loop μ-loop Inv-search μ-search
-returns-2 c = (search (forms-found, needs), (search (forms-below, needs), search needs))
+returns-2 c =
+    let inside = c .before .before .before .before in
+    let tried = inside .before .loop2 .inv in (
+      forms-found _ _ _ _ _ _ _ _ _ _ _ (tried .0) _ _ (c .before .seam-of .ensures .0) (tried .2) (inside .loop2-test .taken) (c .if3 .taken),
+      (forms-below _ _ _ _ _ _ _ _ _ _ _ (tried .0) (inside .loop2-test .taken), tried .0 .others .changed .ready .marked),
+    )
 
 pub find-shortening-spec : {M : Type 1} → statement M
 find-shortening-spec =
@@ -140,14 +170,16 @@ find-shortening-spec =
     Inv-search
     μ-search
     search-holds
-    word-at-requires
+    length-of-requires
     others-of-requires
     loop-holds
     is-fresh-requires
-    word-at-requires-2
+    length-of-requires-2
+    first-form-requires
     loop2-holds
+    is-close-requires
     seam-of-requires
-    mul-if2
+    mul-if3
     greatest-requires
     add-form
     loop2-less
