@@ -1,7 +1,8 @@
 //! A quick search for moves, which serves timing alone: nothing is judged by it. It follows the
 //! search of the proved library, so that the bench compares like with like, and finds the moves
 //! that the plain search of reduction.rs finds. It keeps the inverses of the words beside them, so
-//! that it inverts nothing as it searches, and counts only where two letters agree already.
+//! that it inverts nothing as it searches, and where a pair of slots is tried it looks at two
+//! letters before it counts.
 
 use crate::answers::Answer;
 use crate::asking::ask_by;

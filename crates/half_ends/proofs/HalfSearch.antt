@@ -23,10 +23,10 @@ use Rattle.systems.proofs.Qualifying.{qualifies-qualified}
 use Rattle.systems.proofs.Halves.{back-half, begins-signed, ends-signed}
 use Rattle.systems.proofs.Logic.{bool-cases}
 use Rattle.systems.proofs.Searching.{any-found, any-more-one, first-more-one}
-use Rattle.slots.specs.Held.{Short, held, heldWord}
+use Rattle.slots.specs.Held.{Short, held, heldWord, letterPair}
+use Rattle.slots.proofs.Alike.{pairs-apart}
 use Rattle.slots.proofs.Holding.{held-length, held-size, held-word}
-use Rattle.inverses.specs.Inverses.{Inverted, letterPair}
-use Rattle.inverses.proofs.Alike.{pairs-apart}
+use Rattle.inverses.specs.Inverses.{Inverted}
 use Rattle.half_ends.specs.HalfEnds.{halfElsewhere, meetsHalf}
 
 -- whether two words have so many letters in common, by two letters of each or by the count

@@ -12,16 +12,16 @@ ghost use Rattle.slots.specs.Held.{Held, Short, held, heldWord};
 ghost use Rattle.inverses.specs.Inverses.{Inverted};
 ghost use Rattle.moves.specs.Found.{FoundBelow, foundMove};
 ghost use Rattle.half_ends.specs.HalfEnds.{halfElsewhere, meetsHalf};
-use inverses::beginnings::letter_pair;
 use moves::found::Found;
 use moves::found::Move;
 use records::record::RECORD;
 use slots::held::length_of;
+use slots::held::letter_pair;
 use slots::held::word_at;
 use words::cancel::common_prefix;
 
-// Whether the words of two slots, each in an array of its own, have at least so many letters in common at their beginnings. The letters at
-// the first and the last of those places tell most cases.
+// Whether two slots' words, each in an array of words or of inverses, have at least so many letters in common at their beginnings. Where
+// they differ in the first or the last of these letters, none are counted.
 fn begins_alike(
     half: usize,
     first: &[u8],

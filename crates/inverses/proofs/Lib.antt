@@ -1,2 +1,1 @@
 pub mod Inverting
-pub mod Alike

@@ -5,7 +5,7 @@ ghost use Rattle.runs.specs.Runs.{stopped};
 ghost use Rattle.reduction.specs.Meaning.{TestMeans};
 ghost use Rattle.reduction.specs.Reduction.{refusedTest, testAnswer};
 use crate::answers::Tested;
-use inverses::forming::invert_words;
+use inverses::invert_words;
 use records::answers::Checked;
 use records::answers::Verdict;
 use records::record::RECORD;

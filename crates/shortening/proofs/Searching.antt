@@ -1,7 +1,7 @@
 -- The search for a shortening move over words held in arrays: three nested loops, the pair of slots and the form in the order of document
 -- 01, and what is known of the pairs that were tried and failed. One law for each turn and each way out.
 use Prim.Native.Nat.{_*_, _+_, _-_, _/_, _<_, _≤_, max, min, suc, zero, ℕ}
-use mathlib.Core.Bool.{Bool, _||_, false, true, true≢false}
+use mathlib.Core.Bool.{Bool, _||_, false, true}
 use mathlib.Core.List.{List}
 use mathlib.Core.Logic.{_⊎_, inl, inr}
 use mathlib.Core.Option.{none, some}
@@ -18,34 +18,20 @@ use Rattle.words.proofs.Cancellation.{cancellation-commonPrefix, cancellation-i
 use Rattle.systems.specs.Moves.{Form, formed, seam}
 use Rattle.systems.specs.Products.{FreelyReduced, word}
 use Rattle.systems.specs.Rules.{first, formAt, shortening, tryChanged, tryForm, tryOther}
+use Rattle.systems.proofs.Logic.{none-of-four}
 use Rattle.systems.proofs.Searching.{first-more-one, first-nowhere}
 use Rattle.systems.proofs.Shortening.{formed-shorter, other-missed, other-same, seam-le-changed, seam-le-other, shortening-found, try-not-shorter, try-shorter}
-use Rattle.slots.specs.Held.{Held, Short, held, heldWord}
-use Rattle.slots.proofs.Holding.{held-length, held-short, held-size, held-word}
+use Rattle.slots.specs.Held.{Held, held, heldWord, letterPair}
+use Rattle.slots.proofs.Alike.{pairs-apart}
+use Rattle.slots.proofs.Holding.{held-length, held-size, held-word}
 use Rattle.moves.specs.Found.{FoundBelow, foundMove}
 use Rattle.moves.specs.declared.found.Found.{Found}
 use Rattle.moves.specs.declared.found.Found.the-variants.{Nothing}
 use Rattle.marks.specs.Marks.{Added, Marked, Outside, Settled}
 use Rattle.marks.specs.declared.Slots.{Slots}
 use Rattle.marks.proofs.Marking.{marked-more}
-use Rattle.inverses.specs.Inverses.{Inverted, letterPair}
-use Rattle.inverses.proofs.Alike.{pairs-apart}
+use Rattle.inverses.specs.Inverses.{Inverted}
 use Rattle.shortening.specs.Halves.{HalfAtMost}
-
--- none of four tests holds
-none-of-four : (a b c d : Bool) → (((a || b) || c) || d) ≡ false → (a ≡ false) × (b ≡ false) × (c ≡ false) × (d ≡ false)
-none-of-four false false false d e = (refl, refl, refl, e)
-none-of-four false false true d e = absurd (true≢false e)
-none-of-four false true c d e = absurd (true≢false e)
-none-of-four true b c d e = absurd (true≢false e)
-
--- no more letters are counted than a word has
-pub count-short : (r : ℕ) (u source lengths : List ℕ) (m : ℕ) → r ≤ length u → u ≡ heldWord source lengths m → Short lengths → r ≤ 63
-count-short r u source lengths m most e short = omega (arith, held-short source lengths u m short e)
-
--- a slot has a length
-pub slot-length : (n k : ℕ) (letters lengths : List ℕ) → Held n letters lengths → k < n → (k < length lengths) × Short lengths
-slot-length n k letters lengths here inside = (omega (arith, here .few, here .counted), here .short)
 
 -- what cancels in each of the four forms, as it is counted over the words and the inverses of two slots
 module _ (letters inverses lengths : List ℕ) (n k i : ℕ) (beside : Inverted n letters inverses lengths) (k-in : k < n) (i-in : i < n) where

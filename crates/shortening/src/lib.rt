@@ -11,13 +11,13 @@ ghost use Rattle.moves.specs.Found.{FoundBelow, foundMove};
 ghost use Rattle.marks.specs.Marks.{Marked, Settled};
 ghost use Rattle.inverses.specs.Inverses.{Inverted};
 ghost use Rattle.shortening.specs.Halves.{HalfAtMost};
-use inverses::beginnings::letter_pair;
 use marks::is_fresh;
 use marks::mark;
 use marks::others_of;
 use moves::found::Found;
 use moves::found::Move;
 use slots::held::length_of;
+use slots::held::letter_pair;
 use slots::held::word_at;
 use words::cancel::common_prefix;
 use words::cancel::least;
@@ -65,8 +65,8 @@ fn shorter_half(lengths: &[usize], k: usize, i: usize) -> usize
     least(length_of(lengths, i), length_of(lengths, k)) / 2
 }
 
-// Whether more than half of a word may cancel in a form: the form's two words have the same first letter, and the same where the first half
-// of the shorter one ends.
+// Whether more than half of a word may cancel in a form: the form's two words have the same letter at place 0, and at the place that is half
+// the length of the shorter one.
 fn is_close(
     form: usize,
     letters: &[u8],
@@ -94,8 +94,8 @@ fn is_close(
     letter_pair(inverses, k, half) == letter_pair(inverses, i, half)
 }
 
-// The first form that has to be tried, or 4 where none has: at most half of either word cancels in those before it. So it is in all of them
-// where a word is blank, or where both have two letters or more and no two that a form compares begin with the same two.
+// The form to begin with: 4, that is none, where a word is blank or no form's two words begin with the same two letters, and otherwise 0. A
+// word of a single letter is tried with every other. In the forms before the one given, at most half of either word cancels.
 fn first_form(
     letters: &[u8],
     inverses: &[u8],

@@ -57,6 +57,14 @@ pub held-reduced : (letters lengths w : List ℕ) (n k : ℕ) → Held n letters
 held-reduced letters lengths w n k here inside e =
     freelyReduce-same bytes byteLaws w (rw (e, ← held-word n k letters lengths inside) (here .freely k))
 
+-- no more letters are counted than a word has
+pub count-short : (r : ℕ) (u source lengths : List ℕ) (m : ℕ) → r ≤ length u → u ≡ heldWord source lengths m → Short lengths → r ≤ 63
+count-short r u source lengths m most e short = omega (arith, held-short source lengths u m short e)
+
+-- a slot has a length
+pub slot-length : (n k : ℕ) (letters lengths : List ℕ) → Held n letters lengths → k < n → (k < length lengths) × Short lengths
+slot-length n k letters lengths here inside = (omega (arith, here .few, here .counted), here .short)
+
 -- letters stored at slot k: those outside its 64 places stay, and so do the other words
 pub word-stays : (k : ℕ) (letters letters′ lengths : List ℕ) → Short lengths → take (k * 64) letters′ ≡ take (k * 64) letters
     → drop (k * 64 + 64) letters′ ≡ drop (k * 64 + 64) letters → (j : ℕ) → (j ≡ k → ⊥) → heldWord letters′ lengths j ≡ heldWord letters lengths j

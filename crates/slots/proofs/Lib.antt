@@ -3,3 +3,4 @@ pub mod Holding
 pub mod Systems
 pub mod RoundTrip
 pub mod Factors
+pub mod Alike

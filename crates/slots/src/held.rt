@@ -6,7 +6,7 @@ ghost use Rattle.words.specs.Alphabet.{bytes};
 ghost use Rattle.words.specs.Buffers.{written};
 ghost use Rattle.words.specs.Words.{freelyReduce};
 ghost use Rattle.records.specs.Records.{wordOf};
-ghost use Rattle.slots.specs.Held.{Held, Short, held, heldWord};
+ghost use Rattle.slots.specs.Held.{Held, Short, held, heldWord, letterPair};
 ghost use Rattle.slots.specs.Systems.{bytesOf, freelyReducedWords, slots};
 use records::record::RECORD;
 use records::record::STOP;
@@ -70,6 +70,23 @@ pub fn word_at<'a>(letters: &'a [u8], lengths: &[usize], k: usize) -> &'a [u8]
     let at = k * RECORD;
     let end = at + length_of(lengths, k);
     &letters[at..end]
+}
+
+// The byte of a slot at place 0 and the one at another place, as one number.
+pub fn letter_pair(letters: &[u8], k: usize, place: usize) -> usize
+    requires { ⌜ (k < 16) × (place < 64) × (length (now letters) ≡ 1024) ⌝ }
+    ensures { λ r. ⌜ r ≡ letterPair (now (letters .entry)) k place ⌝ }
+{
+    let at = k * RECORD;
+    let there = at + place;
+    wide(letters[at]) + wide(letters[there]) * 256
+}
+
+// A byte as a larger number.
+fn wide(b: u8) -> usize
+    ensures { λ r. ⌜ (r ≡ b) × (r ≤ 255) ⌝ }
+{
+    b as usize
 }
 
 // Writes the words held in two arrays as records, each into the 64 bytes of its own slot.

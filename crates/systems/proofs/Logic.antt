@@ -31,6 +31,13 @@ not-true-false false n = refl
 pub true-not-false : (t : Bool) → t ≡ true → t ≡ false → ⊥
 true-not-false t e n = true≢false (sym e ∙ n)
 
+-- none of four tests holds
+pub none-of-four : (a b c d : Bool) → (((a || b) || c) || d) ≡ false → (a ≡ false) × (b ≡ false) × (c ≡ false) × (d ≡ false)
+none-of-four false false false d e = (refl, refl, refl, e)
+none-of-four false false true d e = absurd (true≢false e)
+none-of-four false true c d e = absurd (true≢false e)
+none-of-four true b c d e = absurd (true≢false e)
+
 pub and-true : (s t : Bool) → s ≡ true → t ≡ true → s && t ≡ true
 and-true s t e d = rw (e, d)
 

@@ -7,8 +7,9 @@ use mathlib.Core.Path.{_≡_, _∙_, refl, sym}
 use native.Mathlib.Omega.{arith}
 use lib.ListN.{getD, length}
 use borrow.Author.Needs.{needs}
+use Rattle.slots.proofs.Holding.{slot-length}
 use Rattle.inverses.specs.Inverses.{Inverted}
-use Rattle.shortening.proofs.Searching.{Changed, Others, Forms, changed-begin, others-begin, forms-begin, forms-turn, forms-pass, forms-end, others-stale, others-end, changed-end, changed-below, forms-found, forms-below, pair-inside, slot-length}
+use Rattle.shortening.proofs.Searching.{Changed, Others, Forms, changed-begin, others-begin, forms-begin, forms-turn, forms-pass, forms-end, others-stale, others-end, changed-end, changed-below, forms-found, forms-below, pair-inside}
 use Rattle.shortening.proofs.find_shortening.Statement.{statement}
 use Rattle.shortening.proofs.find_shortening.Tie as tie
 

@@ -1,6 +1,7 @@
 -- `shortening::seam_of` meets its contract: one law for each form.
 use borrow.Author.Needs.{needs}
-use Rattle.shortening.proofs.Searching.{count-first, count-second, count-third, count-fourth, count-short}
+use Rattle.slots.proofs.Holding.{count-short}
+use Rattle.shortening.proofs.Searching.{count-first, count-second, count-third, count-fourth}
 use Rattle.shortening.proofs.seam_of.Statement.{statement}
 use Rattle.shortening.proofs.seam_of.Tie as tie
 

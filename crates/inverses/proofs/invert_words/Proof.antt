@@ -1,10 +1,10 @@
--- `inverses::forming::invert_words` meets its contract. The invariant: the inverses of the slots passed are held.
+-- `inverses::invert_words` meets its contract. The invariant: the inverses of the slots passed are held.
 use Prim.Native.Nat.{_-_, _≤_}
 use borrow.Author.Needs.{needs}
 use Rattle.inverses.specs.Inverses.{Inverted}
 use Rattle.inverses.proofs.Inverting.{inverted-all, inverted-next, inverted-none}
-use Rattle.inverses.proofs.forming.invert_words.Statement.{statement}
-use Rattle.inverses.proofs.forming.invert_words.Tie as tie
+use Rattle.inverses.proofs.invert_words.Statement.{statement}
+use Rattle.inverses.proofs.invert_words.Tie as tie
 
 abbrev Inv-loop : tie.InvT-loop
 Inv-loop letters lengths n inverses₀ k₀ inverses k = (k ≤ n) × Inverted k letters inverses lengths

@@ -11,8 +11,7 @@ use Rattle.words.specs.Alphabet.{bytes}
 use Rattle.words.specs.Words.{commonPrefix}
 use Rattle.words.proofs.Alphabet.{byteLaws}
 use Rattle.words.proofs.Cancellation.{commonPrefix-agree, commonPrefix-le-left, commonPrefix-le-right}
-use Rattle.slots.specs.Held.{heldWord}
-use Rattle.inverses.specs.Inverses.{letterPair}
+use Rattle.slots.specs.Held.{heldWord, letterPair}
 
 -- the letter of a held word at a place
 letter-at : (letters lengths : List ℕ) (k place : ℕ) → place < getD lengths k 0 → getD (heldWord letters lengths k) place 0 ≡ getD letters (k * 64 + place) 0

@@ -1,8 +1,8 @@
--- `inverses::forming::invert_word` meets its contract.
+-- `inverses::invert_word` meets its contract.
 use borrow.Author.Needs.{needs}
 use Rattle.inverses.proofs.Inverting.{word-inverted, others-stay}
-use Rattle.inverses.proofs.forming.invert_word.Statement.{statement}
-use Rattle.inverses.proofs.forming.invert_word.Tie as tie
+use Rattle.inverses.proofs.invert_word.Statement.{statement}
+use Rattle.inverses.proofs.invert_word.Tie as tie
 
 mul-at : tie.Need-mul-at
 mul-at c = search needs
