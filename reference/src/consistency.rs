@@ -48,7 +48,7 @@ fn reduce_against_test_and_replay() {
         let words_given = freely_reduced(&given);
         let rank = Graph::folded(words_given.words()).rank();
         assert_eq!(answer.rank, rank as u64);
-        let independent = rank == words_given.rank();
+        let independent = rank == words_given.count();
         assert_eq!(answer.independent, u64::from(independent));
     }
 }

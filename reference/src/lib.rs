@@ -37,6 +37,8 @@ pub mod write_text;
 #[cfg(test)]
 mod consistency;
 #[cfg(test)]
+mod independence_tests;
+#[cfg(test)]
 mod refusal_tests;
 #[cfg(test)]
 mod text_tests;

@@ -65,7 +65,7 @@ pub fn program(input: &[u8]) -> Vec<u8> {
 #[cfg(test)]
 mod tests {
     use super::*;
-    use crate::records::system;
+    use crate::records::{system, MOST_RECORDS};
 
     /// What the program prints for the records given as texts.
     fn printed(texts: &[&str]) -> String {
@@ -100,6 +100,27 @@ a..............................................................
         assert_eq!(printed(&[""]), expected);
         let expected = "moves 0 rank 0 independent yes member no\n";
         assert_eq!(printed(&["a"]), expected);
+    }
+
+    /// A word that is blank or cancels to nothing makes a system dependent; no words are independent.
+    #[test]
+    fn first_lines_with_blank_slots() {
+        let sixteen_blank_and_target = [""; MOST_RECORDS + 1];
+        for (records, [moves, rank], [independent, member]) in [
+            (&["aA", "b", "bb"][..], [0, 1], ["no", "yes"]),
+            (&["aA", "b", "a"], [0, 1], ["no", "no"]),
+            (&["", "aA"], [0, 0], ["no", "yes"]),
+            (&["", "a"], [0, 0], ["no", "no"]),
+            (&sixteen_blank_and_target, [0, 0], ["no", "yes"]),
+            (&["ab", "", "b", "a"], [1, 2], ["no", "yes"]),
+            (&["b", "b"], [0, 1], ["yes", "yes"]),
+            (&[""], [0, 0], ["yes", "yes"]),
+        ] {
+            let expected =
+                format!("moves {moves} rank {rank} independent {independent} member {member}\n");
+            let output = printed(records);
+            assert!(output.starts_with(&expected), "{records:?}: {output}");
+        }
     }
 
     /// The refusals by the input's length, of which 1,088 bytes is the longest to pass.

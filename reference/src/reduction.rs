@@ -86,7 +86,6 @@ pub fn reduce_system(
     system: &mut System,
     log: &mut [u8],
 ) -> Result<Answer, Refusal> {
-    let given_words = system.rank();
     let mut records = log.chunks_exact_mut(LOG_RECORD);
     let mut moves = 0;
     while let Some(step) = next_move(system.words()) {
@@ -100,7 +99,7 @@ pub fn reduce_system(
     Ok(Answer {
         moves,
         rank: system.rank() as u64,
-        independent: u64::from(system.rank() == given_words),
+        independent: u64::from(system.rank() == system.count()),
         ..Answer::done()
     })
 }

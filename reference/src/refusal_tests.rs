@@ -320,8 +320,9 @@ fn systems_reduced_after_free_reduction() {
     assert_eq!(asked(&["", "aA"], "a", 64), expected);
 }
 
-/// One and the same buffer as system and target: a word is the product of itself alone, an empty one
-/// the empty product, and of a malformed record the system's refusal comes first.
+/// One and the same buffer as system and target: a word is independent and the product of itself
+/// alone, an empty one is dependent and the empty product, and of a malformed record the system's
+/// refusal comes first.
 #[test]
 fn systems_asked_about_themselves() {
     let letters = "ab".repeat(31) + "c";
@@ -333,12 +334,13 @@ fn systems_asked_about_themselves() {
         ("aA", ""),
     ] {
         let both = record(text);
-        let rank = product.len() as u64;
+        let [rank, independent] = [product.len() as u64; 2];
         let (mut asked, mut words, mut decided) = ([FILL; 64], [FILL; 64], [FILL; 64]);
         let answer = ask(&both, &both, &mut asked);
         assert_eq!(answer.numbers(), [MEMBER, 0, 0, 0, 0, 0, 0], "{text}");
         let answer = member(&both, &both, &mut words, &mut [], &mut decided);
-        assert_eq!(answer.numbers(), [MEMBER, 0, 0, 0, rank, 1, 0], "{text}");
+        let numbers = [MEMBER, 0, 0, 0, rank, independent, 0];
+        assert_eq!(answer.numbers(), numbers, "{text}");
         assert_eq!([asked, decided], [record(product); 2], "{text}");
     }
     for (place, byte, number) in [

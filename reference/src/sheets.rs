@@ -1,6 +1,7 @@
 //! The worked sheets with their expected outcomes, as data for the tests, for the comparison and
 //! for the cases of the program. Sheets without a label are tests of their own below.
 
+use crate::records::MOST_RECORDS;
 use crate::refusals::{
     Refusal, PRODUCT_BUFFER_SHORT, SYSTEM_NOT_REDUCED, SYSTEM_TOO_LONG, SYSTEM_UNEVEN,
 };
@@ -41,8 +42,8 @@ const UNSTATED: Sheet = Sheet {
 /// The records that the sheets on tidy give, with what they are tidied to.
 pub const TIDY: [(&str, &str, &str); 2] = [("P1", "aAbBc", "c"), ("P2", "abBA", "")];
 
-/// The sheets from P3 on, and Nielsen's four words.
-pub const SHEETS: [Sheet; 11] = [
+/// The sheets from P3 on, Nielsen's four words, and systems with words that cancel to nothing.
+pub const SHEETS: [Sheet; 16] = [
     Sheet {
         name: "P3",
         given: &["ab", "b"],
@@ -118,14 +119,61 @@ pub const SHEETS: [Sheet; 11] = [
     Sheet {
         name: "P12",
         given: &["aA", "b"],
+        log: Some(""),
+        reduced: Some(&["", "b"]),
         rank: Some(1),
-        independent: Some(true),
+        independent: Some(false),
         ..UNSTATED
     },
     Sheet {
         name: "Nielsen's four words",
         given: &["dbAc", "aaBBD", "BAcBAc", "dbbABAc"],
         rank: Some(3),
+        independent: Some(false),
+        ..UNSTATED
+    },
+    Sheet {
+        name: "one blank record",
+        given: &[""],
+        log: Some(""),
+        reduced: Some(&[""]),
+        rank: Some(0),
+        independent: Some(false),
+        ..UNSTATED
+    },
+    Sheet {
+        name: "I1",
+        given: &[""; MOST_RECORDS],
+        log: Some(""),
+        reduced: Some(&[""; MOST_RECORDS]),
+        rank: Some(0),
+        independent: Some(false),
+        ..UNSTATED
+    },
+    Sheet {
+        name: "two of three words that cancel to nothing",
+        given: &["aA", "b", "bB"],
+        log: Some(""),
+        reduced: Some(&["", "b", ""]),
+        rank: Some(1),
+        independent: Some(false),
+        ..UNSTATED
+    },
+    Sheet {
+        name: "I2",
+        given: &["ab", "", "b"],
+        log: Some("a4c\n"),
+        reduced: Some(&["a", "", "b"]),
+        rank: Some(2),
+        independent: Some(false),
+        ..UNSTATED
+    },
+    Sheet {
+        name: "a slot given blank and one that becomes blank",
+        given: &["", "ab", "ab"],
+        log: Some("b2c\n"),
+        reduced: Some(&["", "", "ab"]),
+        rank: Some(1),
         independent: Some(false),
         ..UNSTATED
     },

@@ -1,3 +1,4 @@
 pub mod Order
 pub mod Calls
 pub mod Program
+pub mod Independence

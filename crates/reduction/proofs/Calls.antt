@@ -11,8 +11,9 @@ use lib.Dec.{eqb}
 use lib.ListN.{drop, getD, length, length-drop, length-take, take}
 use Rattle.words.specs.Alphabet.{bytes}
 use Rattle.words.specs.Buffers.{written}
-use Rattle.systems.specs.Rank.{rank}
+use Rattle.systems.specs.Rank.{noneBlank, rank}
 use Rattle.systems.specs.Rules.{movesWithin, runWithin}
+use Rattle.systems.proofs.Rank.{rank-full}
 use Rattle.systems.proofs.Runs.{rank-blank, rank-word}
 use Rattle.records.specs.declared.answers.Checked.{Checked}
 use Rattle.records.specs.declared.answers.Checked.the-variants.{Failed, Fine}
@@ -73,11 +74,13 @@ module _ (s : List ℕ) (S : List (List ℕ)) (given : S ≡ freelyReducedWords 
       → log ≡ written (logOf (movesWithin bytes room (freelyReducedWords s))) log₀
   held-log room log log₀ e = e ∙ ap (λ (U : List (List ℕ)). written (logOf (movesWithin bytes room U)) log₀) given
 
-  pub held-given : (k : ℕ) → k ≡ rank S → k ≡ rank (freelyReducedWords s)
-  held-given k e = e ∙ ap rank given
-
   pub held-rank : (room : ℕ) (T : List (List ℕ)) (k : ℕ) → k ≡ rank T → T ≡ runWithin bytes room S → k ≡ rank (runWithin bytes room (freelyReducedWords s))
   held-rank room T k e f = e ∙ ap rank (f ∙ ap (runWithin bytes room) given)
+
+  -- the rank is the number of slots exactly when no slot is blank
+  pub held-independent : (room : ℕ) (T : List (List ℕ)) (k n : ℕ) → k ≡ rank T → T ≡ runWithin bytes room S → length T ≡ n
+      → eqb k n ≡ noneBlank (runWithin bytes room (freelyReducedWords s))
+  held-independent room T k n e f size = (λ i. eqb (e i) (sym size i)) ∙ rank-full T ∙ ap noneBlank (f ∙ ap (runWithin bytes room) given)
 
 -- the answer by what the tests found
 module _ (c : Checked) (v : Verdict) (S : List (List ℕ)) (most : ℕ) {x : Checked} (e : x ≡ c) where
@@ -85,9 +88,9 @@ module _ (c : Checked) (v : Verdict) (S : List (List ℕ)) (most : ℕ) {x : Che
   answer-refused h told = told ∙ ap refusedReduction h ∙ sym (ap (λ (d : Checked). reductionOf d v S most) (sym e ∙ h))
 
   pub answer-given : {a : Reduction} {u : Verdict} (z : Summary) → x ≡ Fine → a ≡ summed z u → u ≡ v → z .moves ≡ length (movesWithin bytes most S)
-      → z .rank ≡ rank (runWithin bytes most S) → z .given ≡ rank S → a ≡ reductionOf c v S most
-  answer-given z h told same em er eg =
-      told ∙ (λ i. record { verdict = same i; moves = em i; rank = er i; independent = eqb (er i) (eg i) })
+      → z .rank ≡ rank (runWithin bytes most S) → z .independent ≡ noneBlank (runWithin bytes most S) → a ≡ reductionOf c v S most
+  answer-given z h told same em er en =
+      told ∙ (λ i. record { verdict = same i; moves = em i; rank = er i; independent = en i })
       ∙ sym (ap (λ (d : Checked). reductionOf d v S most) (sym e ∙ h))
 
 -- the words that the run leaves, written out

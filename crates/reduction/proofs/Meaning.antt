@@ -10,21 +10,20 @@ use native.Mathlib.Decide.{decLt}
 use native.Mathlib.Omega.{arith}
 use lib.ListN.{length, length-map, take}
 use lib.Seq.{length-take-le}
-use borrow.Author.Tests.{eq-eqb, eqb-true}
 use Rattle.words.specs.Alphabet.{bytes}
 use Rattle.words.specs.Buffers.{written}
 use Rattle.words.specs.Words.{freelyReduce}
 use Rattle.words.proofs.Alphabet.{byteLaws, flipByte-noOwnInverse}
 use Rattle.words.proofs.Buffers.{written-take}
 use Rattle.systems.specs.Moves.{Move, madeAll, undoneAll}
-use Rattle.systems.specs.Products.{Equivalent, FreelyReduced, IndependentWords}
-use Rattle.systems.specs.Rank.{rank}
+use Rattle.systems.specs.Products.{Equivalent, FreelyReduced, Independent}
+use Rattle.systems.specs.Rank.{noneBlank, rank}
 use Rattle.systems.specs.Reduced.{Reduced}
 use Rattle.systems.specs.Rules.{movesWithin, next, runWithin}
 use Rattle.systems.proofs.Ending.{every-run-ends}
 use Rattle.systems.proofs.Equivalence.{freelyReduced-same}
 use Rattle.systems.proofs.Neither.{moves-again, moves-first, moves-fit, moves-over, next-none, run-ended, run-freelyReduced, run-length, run-valid}
-use Rattle.systems.proofs.Runs.{backward, backward-way-within, equivalent, forward-way-within, forward-within, independence-words, reduced}
+use Rattle.systems.proofs.Runs.{backward, backward-way-within, equivalent, forward-way-within, forward-within, independence, reduced}
 use Rattle.records.specs.Answers.{onFine, refusalNumber}
 use Rattle.records.specs.Refusals.{must}
 use Rattle.records.specs.declared.answers.Checked.{Checked}
@@ -42,7 +41,7 @@ use Rattle.replay.specs.Replay.{replayRules, runRules}
 use Rattle.replay.proofs.Accepting.{replay-accepts, run-accepts}
 use Rattle.runs.specs.Runs.{isNone, roomFor, stopped}
 use Rattle.reduction.specs.Meaning.{EnoughMoves, LogShort, ReduceMeans, Reduces, TestMeans}
-use Rattle.reduction.specs.Reduction.{logAfter, reduceAnswer, reduceLog, reduceTests, reduceWords, reductionOf, runTests, sameRank, testAnswer, testedOf, wordsAfter}
+use Rattle.reduction.specs.Reduction.{logAfter, reduceAnswer, reduceLog, reduceTests, reduceWords, reductionOf, runTests, testAnswer, testedOf, wordsAfter}
 use Rattle.reduction.specs.declared.answers.Reduction.{Reduction}
 use Rattle.reduction.specs.declared.answers.Tested.{Tested}
 use Rattle.reduction.proofs.RoundTrip.{letters-madeAll}
@@ -131,17 +130,15 @@ module _ (s : List ℕ) (n : ℕ) where
   unfolding freelyReducedWords
   left-equivalent = equivalent bytes byteLaws n (systemOf s)
 
-  -- where the run has come to its end, they are reduced, and their number tells whether the given words are independent
+  -- where the run has come to its end, they are reduced, and the given words are independent exactly when no slot is blank
   module _ (ended : next bytes (runWords s n) ≡ none) where
     pub left-reduced : Reduced bytes (runWords s n)
     unfolding freelyReducedWords
     left-reduced = reduced bytes byteLaws flipByte-noOwnInverse n (systemOf s) ended
 
-    pub left-independent : (sameRank (freelyReducedWords s) (runWords s n) ≡ true) ↔ IndependentWords bytes (systemOf s)
+    pub left-independent : (noneBlank (runWords s n) ≡ true) ↔ Independent bytes (systemOf s)
     unfolding freelyReducedWords
-    left-independent =
-        let law = independence-words bytes byteLaws flipByte-noOwnInverse n (systemOf s) ended in
-        (λ e. law .0 (eqb-true _ _ e), λ i. eq-eqb _ _ (law .1 i))
+    left-independent = independence bytes byteLaws flipByte-noOwnInverse n (systemOf s) ended
 
 -- a run over a system that passes its tests
 module _ (s : List ℕ) (n : ℕ) (system : systemRules s ≡ Fine) where
@@ -185,6 +182,7 @@ module _ (s : List ℕ) (n : ℕ) (system : systemRules s ≡ Fine) where
         equivalent = rw left-back (left-equivalent s n);
         rank = ap rank (sym left-back);
         independent = left-independent s n ended;
+        noneBlank = ap noneBlank (sym left-back);
         forward = replay-forward;
         forwardGives = rw (logOf-moves (runMoves s n)) (sym left-back);
         backward = replay-backward;

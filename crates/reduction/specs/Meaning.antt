@@ -8,10 +8,10 @@ use mathlib.Core.List.{List}
 use lib.ListN.{length, take}
 use Rattle.words.specs.Alphabet.{bytes}
 use Rattle.systems.specs.Moves.{Move}
-use Rattle.systems.specs.Products.{FreelyReduced, Equivalent, IndependentWords}
+use Rattle.systems.specs.Products.{FreelyReduced, Equivalent, Independent}
 use Rattle.systems.specs.Reduced.{Reduced}
 use Rattle.systems.specs.Rules.{next, movesWithin, runWithin}
-use Rattle.systems.specs.Rank.{rank}
+use Rattle.systems.specs.Rank.{noneBlank, rank}
 use Rattle.slots.specs.Systems.{slots, systemOf, freelyReducedWords}
 use Rattle.slots.specs.Refusals.{systemRules}
 use Rattle.records.specs.Answers.{refusalNumber}
@@ -43,8 +43,10 @@ pub record Reduces (given W L : List ℕ) (answer : Reduction) : Type 0 where
   pub equivalent : Equivalent bytes (systemOf given) (systemOf W)
   -- "The rank is the number of its words that aren't empty"
   pub rank : answer .rank ≡ rank (systemOf W)
-  -- "the verdict says whether the given words that don't cancel to nothing are independent"
-  pub independent : (answer .independent ≡ true) ↔ IndependentWords bytes (systemOf given)
+  -- "the verdict says whether the given words are independent"
+  pub independent : (answer .independent ≡ true) ↔ Independent bytes (systemOf given)
+  -- "exactly when no slot, given blank or not, is blank at the end"
+  pub noneBlank : answer .independent ≡ noneBlank (systemOf W)
   -- "Following the log forward from the given words gives the reduced ones": replay takes both and gives them
   pub forward : (room : ℕ) → slots given * 64 ≤ room → replayRules given L false room ≡ Fine
   pub forwardGives : replayed false (freelyReducedWords given) (movesIn L) ≡ systemOf W

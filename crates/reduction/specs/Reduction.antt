@@ -1,12 +1,11 @@
 -- Reduce and test: the rules of the moves run over a system of records.
 use Prim.Native.Nat.{ℕ}
-use mathlib.Core.Bool.{Bool, false}
+use mathlib.Core.Bool.{false}
 use mathlib.Core.List.{List}
-use lib.Dec.{eqb}
 use lib.ListN.{length}
 use Rattle.words.specs.Alphabet.{bytes}
 use Rattle.words.specs.Buffers.{written}
-use Rattle.systems.specs.Rank.{rank}
+use Rattle.systems.specs.Rank.{noneBlank, rank}
 use Rattle.systems.specs.Rules.{movesWithin, runWithin}
 use Rattle.records.specs.Answers.{onFine}
 use Rattle.records.specs.declared.answers.Checked.{Checked}
@@ -22,23 +21,20 @@ use Rattle.reduction.specs.declared.answers.Reduction.{Reduction}
 use Rattle.reduction.specs.declared.answers.Tested.{Tested}
 use Rattle.reduction.specs.declared.reduce.Summary.{Summary}
 
--- "The verdict is 'independent' if the rank equals the number of given words that don't freely reduce to the empty word."
-abbrev pub sameRank : List (List ℕ) → List (List ℕ) → Bool
-sameRank S T = eqb (rank T) (rank S)
-
 -- "Under a refusal all other numbers are 0 and every yes-or-no is no." Only a failed check comes here.
 abbrev pub refusedReduction : Checked → Reduction
 refusedReduction Fine = record { verdict = Done; moves = 0; rank = 0; independent = false }
 refusedReduction (Failed f) = record { verdict = Refused f; moves = 0; rank = 0; independent = false }
 
--- the answer of reduce and of member: a refusal, or a verdict with the numbers of a run of at most so many moves
+-- the answer of reduce and of member: a refusal, or a verdict with the numbers of a run of at most so many moves. "The verdict is
+-- 'independent' exactly when no slot, given blank or not, is blank at the end."
 abbrev pub reductionOf : Checked → Verdict → List (List ℕ) → ℕ → Reduction
 reductionOf Fine verdict S most =
     record {
       verdict = verdict;
       moves = length (movesWithin bytes most S);
       rank = rank (runWithin bytes most S);
-      independent = sameRank S (runWithin bytes most S);
+      independent = noneBlank (runWithin bytes most S);
     }
 reductionOf (Failed f) verdict S most = refusedReduction (Failed f)
 
@@ -72,7 +68,7 @@ module _ (s words log : List ℕ) where
 
 -- what a reduction came to, with a verdict; no public contract speaks of it
 abbrev pub summed : Summary → Verdict → Reduction
-summed z v = record { verdict = v; moves = z .moves; rank = z .rank; independent = eqb (z .rank) (z .given) }
+summed z v = record { verdict = v; moves = z .moves; rank = z .rank; independent = z .independent }
 
 -- under a refusal test says no. Only a failed check comes here.
 abbrev pub refusedTest : Checked → Tested

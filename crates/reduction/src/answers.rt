@@ -1,8 +1,7 @@
 // What reduce and test answer.
 use records::answers::Verdict;
 
-// The answer of reduce and of member: the number of moves made, the rank, and whether the given words that do
-// not cancel to nothing are independent.
+// The answer of reduce and of member: the number of moves made, the rank, and whether the given words are independent.
 pub struct Reduction {
     pub verdict: Verdict,
     pub moves: usize,

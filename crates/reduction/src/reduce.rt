@@ -4,7 +4,7 @@ ghost use mathlib.Core.Path.{_≡_};
 ghost use lib.ListN.{length};
 ghost use Rattle.words.specs.Alphabet.{bytes};
 ghost use Rattle.words.specs.Buffers.{written};
-ghost use Rattle.systems.specs.Rank.{rank};
+ghost use Rattle.systems.specs.Rank.{noneBlank, rank};
 ghost use Rattle.systems.specs.Rules.{movesWithin, runWithin};
 ghost use Rattle.records.specs.Refusals.{must};
 ghost use Rattle.slots.specs.Held.{Held, held};
@@ -24,11 +24,11 @@ use slots::checks::check_system_room;
 use slots::held::load;
 use slots::held::store;
 
-// What the reduction of a system came to: the moves made, the ranks before and after, and refusal 13 where the run did not end.
+// What the reduction of a system came to: the moves made, the rank, whether no slot is blank, and refusal 13 where the run did not end.
 pub struct Summary {
     pub moves: usize,
-    pub given: usize,
     pub rank: usize,
+    pub independent: bool,
     pub ended: Checked,
 }
 
@@ -67,13 +67,11 @@ fn reduce_records(system: &[u8], words: &mut [u8], log: &mut [u8]) -> Reduction
 pub fn answer_with(summary: Summary, verdict: Verdict) -> Reduction
     ensures { λ r. ⌜ r ≡ summed summary verdict ⌝ }
 {
-    let rank = summary.rank;
-    let given = summary.given;
     Reduction {
         verdict,
         moves: summary.moves,
-        rank,
-        independent: rank == given,
+        rank: summary.rank,
+        independent: summary.independent,
     }
 }
 
@@ -107,8 +105,8 @@ pub fn reduce_held(
     requires { ⌜ length (now system) ≤ 1024 ⌝ }
     requires { ⌜ Held 0 (now letters) (now lengths) ⌝ }
     ensures moves { λ r. ⌜ r .moves ≡ length (movesWithin bytes (roomFor (now (log .entry))) (freelyReducedWords (now (system .entry)))) ⌝ }
-    ensures given { λ r. ⌜ r .given ≡ rank (freelyReducedWords (now (system .entry))) ⌝ }
     ensures rank { λ r. ⌜ r .rank ≡ rank (runWithin bytes (roomFor (now (log .entry))) (freelyReducedWords (now (system .entry)))) ⌝ }
+    ensures independent { λ r. ⌜ r .independent ≡ noneBlank (runWithin bytes (roomFor (now (log .entry))) (freelyReducedWords (now (system .entry)))) ⌝ }
     ensures ended { λ r. ⌜ r .ended ≡ must (stopped (runWithin bytes (roomFor (now (log .entry))) (freelyReducedWords (now (system .entry))))) 13 0 ⌝ }
     ensures words { λ _. ⌜ held (slots (now (system .entry))) (now (letters .exit)) (now (lengths .exit)) ≡ runWithin bytes (roomFor (now (log .entry))) (freelyReducedWords (now (system .entry))) ⌝ }
     ensures log { λ _. ⌜ now (log .exit) ≡ written (logOf (movesWithin bytes (roomFor (now (log .entry))) (freelyReducedWords (now (system .entry))))) (now (log .entry)) ⌝ }
@@ -116,13 +114,12 @@ pub fn reduce_held(
 {
     let n = system.len() / RECORD;
     load(system, letters, lengths);
-    let given = rank_of(letters, lengths, n);
     let ran = run(letters, lengths, n, log);
     let rank = rank_of(letters, lengths, n);
     Summary {
         moves: ran.moves,
-        given,
         rank,
+        independent: rank == n,
         ended: check_that(ran.ended, LOG_BUFFER_SHORT, 0),
     }
 }

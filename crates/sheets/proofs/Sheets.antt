@@ -40,6 +40,8 @@ sheets-hold =
     and ((refl, refl, refl), (refl, refl, refl, refl))
     and ((refl, refl, refl), (refl, refl, refl, refl))
     and (refl, refl, refl)
+    and (refl, refl, refl)
+    and (refl, refl, refl)
     and (refl, refl)
     and (refl, refl)
     and (refl, refl)
@@ -73,6 +75,7 @@ sheets-hold =
     and (refl, refl)
     and (refl, refl)
     and (refl, refl)
+    and refl
     and refl
     and refl
     and refl

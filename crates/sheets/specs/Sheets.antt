@@ -136,6 +136,9 @@ threeWords = outcome ("ab" ∷ "ac" ∷ "Bd" ∷ []) ("c1a" ∷ []) ("ab" ∷ "a
 abbrev pub noWords : Outcome
 noWords = outcome [] [] [] 0 true
 
+abbrev pub sixteenBlank : List String
+sixteenBlank = replicate 16 ""
+
 abbrev pub sheets : List Sheet
 sheets =
     tidies "P1" "aAbBc" "c"
@@ -149,7 +152,9 @@ sheets =
     ∷ member "P9" noWords "" ""
     ∷ notMember "P10" noWords "a"
     ∷ member "P11" (outcome ("ab" ∷ "ab" ∷ []) ("a2b" ∷ []) ("" ∷ "ab" ∷ []) 1 false) "abab" "bb"
-    ∷ reduces "P12" (outcome ("aA" ∷ "b" ∷ []) [] ("" ∷ "b" ∷ []) 1 true)
+    ∷ reduces "P12" (outcome ("aA" ∷ "b" ∷ []) [] ("" ∷ "b" ∷ []) 1 false)
+    ∷ reduces "I1" (outcome sixteenBlank [] sixteenBlank 0 false)
+    ∷ reduces "I2" (outcome ("ab" ∷ "" ∷ "b" ∷ []) ("a4c" ∷ []) ("a" ∷ "" ∷ "b" ∷ []) 2 false)
     ∷ asks "A1" ("ab" ∷ "ac" ∷ "ad" ∷ []) "Cd" 64 Member (recordIn "Bc")
     ∷ asks "A2" ("ab" ∷ "ac" ∷ "ad" ∷ []) "d" 64 NotMember (lent 64)
     ∷ asks "A3" ("cC" ∷ "aAb" ∷ []) "bcCb" 64 Member (recordIn "bb")
@@ -196,6 +201,12 @@ sheets =
     ∷ "ac............................................................."
     ∷ "ad............................................................."
     ∷ "c1a"
+    ∷ [])
+    ∷ prints "P12" ("aA" ∷ "b" ∷ "b" ∷ [])
+    ("moves 0 rank 1 independent no member yes"
+    ∷ "..............................................................."
+    ∷ "b.............................................................."
+    ∷ "b.............................................................."
     ∷ [])
     ∷ prints "no input" [] ("refused 6 at 0" ∷ [])
     ∷ prints "neither letter nor stop" ("ab" ∷ "b7" ∷ "a" ∷ []) ("refused 4 at 65" ∷ [])

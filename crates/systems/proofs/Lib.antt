@@ -4,6 +4,7 @@ pub mod Factors
 pub mod ProductLaws
 pub mod Undoing
 pub mod Equivalence
+pub mod Rank
 pub mod Independence
 pub mod Shortening
 pub mod Halves

@@ -4,59 +4,45 @@
 use Prim.Native.Nat.{ℕ, _+_, _≤_}
 use mathlib.Core.Path.{_≡_, refl, sym, _∙_}
 use mathlib.Core.Logic.{_↔_}
+use mathlib.Core.Bool.{true}
 use mathlib.Core.Option.{none, some}
 use mathlib.Core.List.{List, [], _∷_, _++_, map}
 use native.Mathlib.Omega.{arith}
-use lib.ListN.{length, take, drop, length-append}
+use lib.ListN.{length, take, drop, length-append, length-map}
 use Rattle.words.specs.Alphabet.{Alphabet}
 use Rattle.words.specs.Words.{freelyReduce}
 use Rattle.words.proofs.Alphabet.{AlphabetLaws}
 use Rattle.words.proofs.FreeReduction.{length-freelyReduce}
-use Rattle.systems.specs.Products.{Factor, word, OverWords, Equivalent, Independent, OverUncancelled, IndependentWords, FreelyReduced}
+use Rattle.systems.specs.Products.{word, Equivalent, Independent, FreelyReduced}
 use Rattle.systems.specs.Moves.{Move, made, madeAll, undoneAll}
 use Rattle.systems.specs.Reduced.{Reduced}
 use Rattle.systems.specs.Rules.{next, movesWithin, runWithin}
-use Rattle.systems.specs.Rank.{rank}
+use Rattle.systems.specs.Rank.{noneBlank, rank}
 use Rattle.systems.proofs.Undoing.{AllApart, madeAll-undone, madeAll-undone-to}
 use Rattle.systems.proofs.Equivalence.{reduced-word, words-freelyReduced, reduced-multiplied, run-equivalent}
-use Rattle.systems.proofs.Independence.{MovesWords, moves-apart, rank-iff}
+use Rattle.systems.proofs.ProductLaws.{named-over, over-named}
+use Rattle.systems.proofs.Independence.{independent-moves, independent-noneBlank}
 use Rattle.systems.proofs.Neither.{ValidMoves, Within, madeAll-way-within, moves-last, run-last, moves-ended, moves-full, run-freelyReduced, run-valid, run-within, run-reduced}
 use Rattle.systems.proofs.Unique.{reduced-independent}
 
 module _ {A : Type 0} (G : Alphabet A) (L : AlphabetLaws G) where
-  valid-words : (S : List (List A)) (ms : List Move) → ValidMoves G S ms → MovesWords G S ms
-  valid-words S [] v = tt
-  valid-words S (m ∷ ms) v = (
-    v .0 .allowed .distinct,
-    v .0 .allowed .changed-word,
-    v .0 .allowed .other-word,
-    valid-words (made G S m) ms v.1,
-  )
-
-  -- "Only slots that are not blank take part."
-  pub run-words : (n : ℕ) (S : List (List A)) → FreelyReduced G S → MovesWords G S (movesWithin G n S)
-  run-words n S freely = valid-words S (movesWithin G n S) (run-valid G L n S freely)
+  valid-apart : (S : List (List A)) (ms : List Move) → ValidMoves G S ms → AllApart ms
+  valid-apart S [] v = tt
+  valid-apart S (m ∷ ms) v = (v .0 .allowed .distinct, valid-apart (made G S m) ms v.1)
 
   pub run-apart : (n : ℕ) (S : List (List A)) → FreelyReduced G S → AllApart (movesWithin G n S)
-  run-apart n S freely = moves-apart G S (movesWithin G n S) (run-words n S freely)
+  run-apart n S freely = valid-apart S (movesWithin G n S) (run-valid G L n S freely)
 
   pub reduced-within : (S : List (List A)) (b : ℕ) → Within G b S → Within G b (map (freelyReduce G) S)
   reduced-within S b h k = rw (reduced-word G L S k) (omega (arith, length-freelyReduce G L (word G S k), h k))
 
-  words-uncancelled : (S : List (List A)) (p : List Factor) → OverWords G (map (freelyReduce G) S) p → OverUncancelled G S p
-  words-uncancelled S [] o = tt
-  words-uncancelled S (f ∷ p) o = (λ e. o .0 (reduced-word G L S (f .slot) ∙ e), words-uncancelled S p o.1)
-
-  uncancelled-words : (S : List (List A)) (p : List Factor) → OverUncancelled G S p → OverWords G (map (freelyReduce G) S) p
-  uncancelled-words S [] o = tt
-  uncancelled-words S (f ∷ p) o = (λ e. o .0 (sym (reduced-word G L S (f .slot)) ∙ e), uncancelled-words S p o.1)
-
-  -- they are independent exactly when the given words are that don't cancel to nothing
-  pub independent-words : (S : List (List A)) → Independent G (map (freelyReduce G) S) ↔ IndependentWords G S
-  independent-words S = (
-    λ i p o e. i p (uncancelled-words S p o) (reduced-multiplied G L S p ∙ e),
-    λ i p o e. i p (words-uncancelled S p o) (sym (reduced-multiplied G L S p) ∙ e),
-  )
+  -- the freely reduced words are independent exactly when the given ones are
+  freelyReduced-independent : (S : List (List A)) → Independent G (map (freelyReduce G) S) ↔ Independent G S
+  freelyReduced-independent S =
+      let same : length (map (freelyReduce G) S) ≡ length S = length-map S (freelyReduce G) in (
+        λ i p o e. i p (named-over G L (map (freelyReduce G) S) p (rw same (over-named G L S p o))) (reduced-multiplied G L S p ∙ e),
+        λ i p o e. i p (named-over G L S p (rw same at (over-named G L (map (freelyReduce G) S) p o))) (sym (reduced-multiplied G L S p) ∙ e),
+      )
 
   -- the words that a run leaves generate the same words as the given ones
   pub equivalent : (n : ℕ) (S : List (List A)) → Equivalent G S (runWithin G n (map (freelyReduce G) S))
@@ -94,18 +80,14 @@ module _ {A : Type 0} (G : Alphabet A) (L : AlphabetLaws G) where
     pub reduced : Reduced G (runWithin G n (map (freelyReduce G) S))
     reduced = run-reduced G L noOwnInverse n (map (freelyReduce G) S) start ended
 
-    -- "The verdict is 'independent' if the rank equals the number of given words that don't freely reduce to the empty word."
-    pub independence : (rank (runWithin G n (map (freelyReduce G) S)) ≡ rank (map (freelyReduce G) S)) ↔ Independent G (map (freelyReduce G) S)
-    independence = rank-iff G L (map (freelyReduce G) S) (movesWithin G n (map (freelyReduce G) S)) start
-        (run-words n (map (freelyReduce G) S) start)
-        (reduced-independent G L (runWithin G n (map (freelyReduce G) S)) (run-freelyReduced G L n (map (freelyReduce G) S) start) reduced)
-
-    -- the same of the given words themselves
-    pub independence-words : (rank (runWithin G n (map (freelyReduce G) S)) ≡ rank (map (freelyReduce G) S)) ↔ IndependentWords G S
-    independence-words = (
-      λ e. independent-words S .0 (independence .0 e),
-      λ i. independence .1 (independent-words S .1 i),
-    )
+    -- Nielsen's theorems 2 and 3: the given words are independent exactly when no slot is blank at the end
+    pub independence : (noneBlank (runWithin G n (map (freelyReduce G) S)) ≡ true) ↔ Independent G S
+    independence =
+        let T : List (List A) = map (freelyReduce G) S in
+        let moves = independent-moves G L T (movesWithin G n T) start (run-apart n T start) in (
+          λ e. freelyReduced-independent S .0 (moves .1 (reduced-independent G L (runWithin G n T) (run-freelyReduced G L n T start) reduced e)),
+          λ i. independent-noneBlank G L (runWithin G n T) (moves .0 (freelyReduced-independent S .1 i)),
+        )
 
 module _ {A : Type 0} (G : Alphabet A) (S current : List (List A)) (used : ℕ) (here : current ≡ runWithin G used S) where
   module _ (m : Move) (more : next G current ≡ some m) where

@@ -72,16 +72,7 @@ module _ {A : Type 0} (G : Alphabet A) where
   abbrev pub Equivalent : List (List A) → List (List A) → Type 0
   Equivalent S T = (w : List A) → Generated S w ↔ Generated T w
 
-  -- the words of a system that are not blank are independent; theorems alone speak of it
+  -- the words of a system are independent: "every product of the given words and inverses that comes to the empty word cancels already as
+  -- a product over slots"
   abbrev pub Independent : List (List A) → Type 0
-  Independent S = (p : List Factor) → OverWords S p → multiplied S p ≡ [] → freelyReduce factors p ≡ []
-
-  -- it names no slot whose word cancels to nothing
-  abbrev pub OverUncancelled : List (List A) → List Factor → Type 0
-  OverUncancelled S [] = Unit
-  OverUncancelled S (f ∷ p) = (freelyReduce G (word S (f .slot)) ≡ [] → ⊥) × OverUncancelled S p
-
-  -- the given words that don't cancel to nothing are independent: "every product of those words and inverses that comes to the empty word
-  -- cancels already as a product over slots"
-  abbrev pub IndependentWords : List (List A) → Type 0
-  IndependentWords S = (p : List Factor) → OverUncancelled S p → multiplied S p ≡ [] → freelyReduce factors p ≡ []
+  Independent S = (p : List Factor) → Over S p → multiplied S p ≡ [] → freelyReduce factors p ≡ []
