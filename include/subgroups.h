@@ -159,8 +159,9 @@ void subgroups_tidy(const uint8_t *system, size_t system_len, uint8_t *words, si
 void subgroups_test(const uint8_t *system, size_t system_len, subgroups_answer *answer);
 
 /* Writes the reduced words, each into its slot, and the log of the moves, and gives the number of moves, the rank (the number
- * of reduced words that are not empty) and in independent whether the given words are: 1 exactly when no slot is blank at the
- * end, so 0 where a given word cancels to nothing, and 1 for no words. Refusals 2, 1, 3 to 5, 10 and 13. */
+ * of reduced words that are not empty), and says in independent whether the given words are independent: 1 exactly when no slot
+ * is blank at the end, so 0 where a given word cancels to nothing, and 1 for a system of no records.
+ * Refusals 2, 1, 3 to 5, 10 and 13. */
 void subgroups_reduce(const uint8_t *system, size_t system_len, uint8_t *words, size_t words_len,
                       uint8_t *log, size_t log_len, subgroups_answer *answer);
 

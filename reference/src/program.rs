@@ -102,7 +102,7 @@ a..............................................................
         assert_eq!(printed(&["a"]), expected);
     }
 
-    /// A word that is blank or cancels to nothing makes a system dependent; no words are independent.
+    /// A word that is blank or cancels to nothing makes a system dependent; one of no records is independent.
     #[test]
     fn first_lines_with_blank_slots() {
         let sixteen_blank_and_target = [""; MOST_RECORDS + 1];

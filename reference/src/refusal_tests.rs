@@ -334,7 +334,8 @@ fn systems_asked_about_themselves() {
         ("aA", ""),
     ] {
         let both = record(text);
-        let [rank, independent] = [product.len() as u64; 2];
+        let rank = product.len() as u64;
+        let independent = rank;
         let (mut asked, mut words, mut decided) = ([FILL; 64], [FILL; 64], [FILL; 64]);
         let answer = ask(&both, &both, &mut asked);
         assert_eq!(answer.numbers(), [MEMBER, 0, 0, 0, 0, 0, 0], "{text}");

@@ -1,5 +1,6 @@
 //! The worked sheets with their expected outcomes, as data for the tests, for the comparison and
-//! for the cases of the program. Sheets without a label are tests of their own below.
+//! for the cases of the program. Nielsen's four words and some systems with blank slots, which have
+//! no label, stand among them; the other sheets without a label are tests of their own below.
 
 use crate::records::MOST_RECORDS;
 use crate::refusals::{
@@ -42,7 +43,7 @@ const UNSTATED: Sheet = Sheet {
 /// The records that the sheets on tidy give, with what they are tidied to.
 pub const TIDY: [(&str, &str, &str); 2] = [("P1", "aAbBc", "c"), ("P2", "abBA", "")];
 
-/// The sheets from P3 on, Nielsen's four words, and systems with words that cancel to nothing.
+/// The sheets from P3 on, I1 and I2, Nielsen's four words, and more systems with blank slots.
 pub const SHEETS: [Sheet; 16] = [
     Sheet {
         name: "P3",

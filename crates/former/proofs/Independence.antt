@@ -57,45 +57,46 @@ independentOnlyIf b r = record { verdict = r .verdict; moves = r .moves; rank = 
 
 module _ (S : List (List ℕ)) (start : FreelyReduced bytes S) (most : ℕ) where
   -- where a run comes to its end with no blank slot, no word was blank before it
-  none-before : next bytes (runWithin bytes most S) ≡ none → noneBlank (runWithin bytes most S) ≡ true → noneBlank S ≡ true
-  none-before ended e = independent-noneBlank bytes byteLaws S
+  noneBlank-before : next bytes (runWithin bytes most S) ≡ none → noneBlank (runWithin bytes most S) ≡ true → noneBlank S ≡ true
+  noneBlank-before ended e = independent-noneBlank bytes byteLaws S
       (independent-moves bytes byteLaws S (movesWithin bytes most S) start (run-apart bytes byteLaws most S start) .1
       (reduced-independent bytes byteLaws (runWithin bytes most S) (run-freelyReduced bytes byteLaws most S start)
       (run-reduced bytes byteLaws flipByte-noOwnInverse most S start ended) e))
 
   -- where no word was blank before the run, the verdict is the former one
-  none-same : noneBlank S ≡ true → noneBlank (runWithin bytes most S) ≡ eqb (rank (runWithin bytes most S)) (rank S)
-  none-same e =
+  noneBlank-same : noneBlank S ≡ true → noneBlank (runWithin bytes most S) ≡ eqb (rank (runWithin bytes most S)) (rank S)
+  noneBlank-same e =
       let full : rank S ≡ length (runWithin bytes most S) = eqb-true _ _ (rank-full S ∙ e) ∙ sym (run-length bytes most S) in
       sym (rank-full (runWithin bytes most S)) ∙ ap (eqb (rank (runWithin bytes most S))) (sym full)
 
   -- the verdict is the former one and that no word was blank before the run
-  none-both : next bytes (runWithin bytes most S) ≡ none
+  noneBlank-both : next bytes (runWithin bytes most S) ≡ none
       → noneBlank (runWithin bytes most S) ≡ noneBlank S && eqb (rank (runWithin bytes most S)) (rank S)
-  none-both ended = elim (bool-cases (noneBlank S)) [
-    | inl full ↦ rw full (none-same full)
-    | inr blank ↦ rw blank (not-true-false _ (λ e. true-not-false (noneBlank S) (none-before ended e) blank))
+  noneBlank-both ended = elim (bool-cases (noneBlank S)) [
+    | inl full ↦ rw full (noneBlank-same full)
+    | inr blank ↦ rw blank (not-true-false _ (λ e. true-not-false (noneBlank S) (noneBlank-before ended e) blank))
   ]
 
-  verdict-by : (c : Checked) (v : Verdict) → (c ≡ Fine → next bytes (runWithin bytes most S) ≡ none)
+  independence-by : (c : Checked) (v : Verdict) → (c ≡ Fine → next bytes (runWithin bytes most S) ≡ none)
       → reductionOf c v S most ≡ independentOnlyIf (noneBlank S) (formerReductionOf c v S most)
-  verdict-by Fine v ended =
-      λ i. record { verdict = v; moves = length (movesWithin bytes most S); rank = rank (runWithin bytes most S); independent = none-both (ended refl) i }
-  verdict-by (Failed f) v ended = rw (and-false (noneBlank S)) refl
+  independence-by Fine v ended =
+      λ i. record { verdict = v; moves = length (movesWithin bytes most S); rank = rank (runWithin bytes most S); independent = noneBlank-both (ended refl) i }
+  independence-by (Failed f) v ended = rw (and-false (noneBlank S)) refl
 
-  reduction-verdict : (tests : Checked) (v : Verdict)
+  reduction-independence : (tests : Checked) (v : Verdict)
       → reductionOf (runTests tests S most) v S most ≡ independentOnlyIf (noneBlank S) (formerReductionOf (runTests tests S most) v S most)
-  reduction-verdict tests v = verdict-by (runTests tests S most) v
+  reduction-independence tests v = independence-by (runTests tests S most) v
       (λ passed. stopped-none (runWithin bytes most S) (must-fine (stopped (runWithin bytes most S)) 13 0 (fine-next tests _ passed)))
 
--- reduce; what it writes does not depend on the verdict
+-- reduce: the answer is the former one, but 'independent' only where no given word freely reduces to the empty word; what reduce writes
+-- does not depend on the verdict
 abbrev pub formerReduceAnswer : List ℕ → List ℕ → List ℕ → Reduction
 formerReduceAnswer s words log = formerReductionOf (reduceTests s words log) Done (freelyReducedWords s) (roomFor log)
 
-pub reduce-verdict : (s words log : List ℕ)
+pub reduce-independence : (s words log : List ℕ)
     → reduceAnswer s words log ≡ independentOnlyIf (noneBlank (freelyReducedWords s)) (formerReduceAnswer s words log)
-reduce-verdict s words log =
-    reduction-verdict (freelyReducedWords s) (loaded-freelyReduced s) (roomFor log) (systemRoom s (length words)) Done
+reduce-independence s words log =
+    reduction-independence (freelyReducedWords s) (loaded-freelyReduced s) (roomFor log) (systemRoom s (length words)) Done
 
 -- member, likewise
 module _ (s t words log product : List ℕ) where
@@ -103,12 +104,12 @@ module _ (s t words log product : List ℕ) where
   formerMemberAnswer =
       formerReductionOf (memberChecked s t words log product) (verdictOf (isFound (memberFound s t words log product))) (freelyReducedWords s) (roomFor log)
 
-  pub member-verdict : memberAnswer s t words log product ≡ independentOnlyIf (noneBlank (freelyReducedWords s)) formerMemberAnswer
-  member-verdict =
-      reduction-verdict (freelyReducedWords s) (loaded-freelyReduced s) (roomFor log) (memberTests s t (length words) (length product))
+  pub member-independence : memberAnswer s t words log product ≡ independentOnlyIf (noneBlank (freelyReducedWords s)) formerMemberAnswer
+  member-independence =
+      reduction-independence (freelyReducedWords s) (loaded-freelyReduced s) (roomFor log) (memberTests s t (length words) (length product))
       (verdictOf (isFound (memberFound s t words log product)))
 
--- the program: its output, with an answer of member
+-- the program: its output for an input, with this answer of member
 abbrev pub outputOf : List ℕ → Reduction → List ℕ
 outputOf input answer =
     linesAfter (inputRules (length input)) (linesOf input (
@@ -118,9 +119,10 @@ outputOf input answer =
       memberProduct (givenSystem input) (givenTarget input) programWords programLog programProduct,
     ))
 
-pub program-verdict : (input : List ℕ)
+-- it is that of member's answer
+pub program-independence : (input : List ℕ)
     → programOutput input
     ≡ outputOf input (independentOnlyIf (noneBlank (freelyReducedWords (givenSystem input)))
     (formerMemberAnswer (givenSystem input) (givenTarget input) programWords programLog programProduct))
 unfolding programOutput answerOutput
-program-verdict input = ap (outputOf input) (member-verdict (givenSystem input) (givenTarget input) programWords programLog programProduct)
+program-independence input = ap (outputOf input) (member-independence (givenSystem input) (givenTarget input) programWords programLog programProduct)

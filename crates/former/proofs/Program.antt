@@ -35,7 +35,7 @@ lines-same : (checked : Checked) {given former : List ℕ} → (checked ≡ Fine
 lines-same Fine same = same refl
 lines-same (Failed f) same = refl
 
--- where the length passes the given system has at most 1,024 bytes, and member gives what it gave
+-- where the length passes the given system has at most 1,024 bytes, and member gives what it gives under the former order
 member-same : (input : List ℕ) → inputRules (length input) ≡ Fine
     → linesOf input (memberWith (systemRules (givenSystem input)) (givenSystem input) (givenTarget input) programWords programLog programProduct)
     ≡ linesOf input (memberWith (formerSystemRules (givenSystem input)) (givenSystem input) (givenTarget input) programWords programLog programProduct)
@@ -45,7 +45,7 @@ member-same input passed =
     ∙ member .asItWas .elsewhere
     (λ long. absurd (omega (arith, long .0, size-most (length input) passed, length-take (length input - 64) input))))
 
--- the output is the former one unless the input is longer than 1,088 bytes and uneven, and there it is the line of refusal 2
+-- the output is that under the former order unless the input is longer than 1,088 bytes and uneven, and there it is the line of refusal 2
 pub program-same-unless : (input : List ℕ)
     → SameUnless 1088 (length input) (programOutput input)
     (outputWith (formerInputRules (length input)) (formerSystemRules (givenSystem input)) input) (refusalLine (record { number = 2; place = 0 }))

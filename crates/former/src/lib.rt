@@ -1,2 +1,2 @@
-// What was otherwise before, the order of refusals 1 and 2 and the verdict on independence, and laws that say which answers differ from it.
+// The former order of refusals 1 and 2 and the former verdict on independence, and laws that say which answers differ from them.
 // It holds no code of its own.

@@ -24,7 +24,8 @@ use slots::checks::check_system_room;
 use slots::held::load;
 use slots::held::store;
 
-// What the reduction of a system came to: the moves made, the rank, whether no slot is blank, and refusal 13 where the run did not end.
+// What the reduction of a system came to: the moves made, the rank, whether no slot is blank, which is the verdict on independence,
+// and refusal 13 where the run did not end.
 pub struct Summary {
     pub moves: usize,
     pub rank: usize,

@@ -1,4 +1,4 @@
--- The worked sheets of docs/REQUIREMENTS.md that have a label, what the program prints for two of them, for no input and for a byte that
+-- The worked sheets of docs/REQUIREMENTS.md that have a label, what the program prints for three of them, for no input and for a byte that
 -- is neither letter nor full stop, as one list, and what each says over the definitions.
 use Prim.Native.Nat.{ℕ, _*_}
 use Prim.Native.String.{String}
@@ -136,6 +136,7 @@ threeWords = outcome ("ab" ∷ "ac" ∷ "Bd" ∷ []) ("c1a" ∷ []) ("ab" ∷ "a
 abbrev pub noWords : Outcome
 noWords = outcome [] [] [] 0 true
 
+-- the words of I1, given and reduced
 abbrev pub sixteenBlank : List String
 sixteenBlank = replicate 16 ""
 

@@ -13,7 +13,7 @@ use Rattle.words.specs.Alphabet.{Alphabet}
 use Rattle.words.specs.Words.{freelyReduce, Irreducible, inverse}
 use Rattle.words.proofs.Alphabet.{AlphabetLaws}
 use Rattle.words.proofs.Inverse.{inverse-singleton}
-use Rattle.systems.specs.Products.{Factor, factors, word, value, spelled, Over, Independent, FreelyReduced}
+use Rattle.systems.specs.Products.{Factor, factors, word, value, spelled, Independent, FreelyReduced}
 use Rattle.systems.specs.Moves.{Form, form₁, form₂, form₃, form₄, Move, formed, movedWord, made, madeAll}
 use Rattle.systems.specs.Rank.{noneBlank}
 use Rattle.systems.proofs.Factors.{factorLaws}
@@ -121,7 +121,7 @@ module _ {A : Type 0} (G : Alphabet A) (L : AlphabetLaws G) (S : List (List A)) 
         independent q (named-over G L (madeAll G S ms) q named) (sym (multiplied-after G L S ms p freely apart) ∙ e) in
         sym (before-after (length S) ms p apart (over-named G L S p over)) ∙ before-trivial (length S) ms q trivial
 
-    -- Nielsen's lemma for theorems 2 and 3, along a list of moves: where the words before the moves are independent, so are those after
+    -- Nielsen's lemma before theorem 2, along a list of moves: where the words before the moves are independent, so are those after
     -- them, and the other way round
     pub independent-moves : Independent G S ↔ Independent G (madeAll G S ms)
     independent-moves = (independent-after, independent-before)

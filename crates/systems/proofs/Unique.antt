@@ -22,7 +22,8 @@ module _ {A : Type 0} (G : Alphabet A) (L : AlphabetLaws G) (S : List (List A)) 
   words-trivial p o e = product-empty G L S freely reduced (freelyReduce factors p)
       (overWords-freelyReduce G L S p o, freelyReduce-irreducible factors factorLaws p) (multiplied-freelyReduce G L S p ∙ e)
 
-  -- "Sætning 1: Et reduceret System er uafhængigt"; Nielsen's systems have no blank slots, "Er α'k = 1, bortkastes det"
+  -- "Sætning 1: Et reduceret System er uafhængigt": a reduced system is independent. Nielsen throws an element 1 away ("Er α'k = 1,
+  -- bortkastes det"), so here no slot may be blank
   pub reduced-independent : noneBlank S ≡ true → Independent G S
   reduced-independent full p o e = words-trivial p (named-words G L S _ p (noneBlank-slots G S full) (over-named G L S p o)) e
 

@@ -1,4 +1,4 @@
--- The rank of a system of words, and whether every slot counts for it.
+-- The rank of a system of words, and whether no slot is blank.
 use Prim.Native.Nat.{ℕ, suc}
 use mathlib.Core.Bool.{Bool, false, true}
 use mathlib.Core.List.{List, [], _∷_}
