@@ -1,4 +1,6 @@
 // Ask: whether a target lies in the subgroup that a reduced system generates, and for a member the product that it is.
+#![tactic(auto)]
+
 ghost use Rattle.std.specs.Prelude.{◌≤◌, ◌≡◌, length};
 ghost use Rattle.slots.specs.Held.{Held, held};
 ghost use Rattle.factoring.specs.TargetProduct.{is_found, product_after, product_for, target_word};

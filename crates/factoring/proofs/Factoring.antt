@@ -12,7 +12,7 @@ use native.Mathlib.Numerals.{add-one}
 use lib.Dec.{eqb}
 use borrow.Author.Tests.{eq-eqb, ne_eqb}
 use lib.ListN.{length, take, drop, set, length-take}
-use lib.Seq.{take_at, take-suc-set, length-take_le}
+use lib.Seq.{take_at, take-suc-set, length-take-le}
 use Rattle.words.specs.Alphabet.{bytes}
 use Rattle.words.specs.Words.{freely_reduce, inverse, signed}
 use Rattle.words.proofs.Alphabet.{byte_laws}
@@ -82,7 +82,7 @@ module _ (letters lengths word rest u : List ℕ) (n size left : ℕ) (x : CodeF
           leading_length bytes byte_laws (held n letters lengths) (take size word) (as_factor x) freely
               (irreducible_of_same bytes byte_laws (take size word) reduced) leads,
           ap length left_is,
-          length-take_le left rest within,
+          length-take-le left rest within,
           length-take size word,
         )
 
@@ -93,7 +93,7 @@ module _ (letters lengths word rest u : List ℕ) (n size left : ℕ) (x : CodeF
       → take left out ≡ freely_reduce bytes (inverse bytes (value bytes (held n letters lengths) (as_factor x)) ++ take size word)
   left_word out e =
       ap (take left) (e ∙ ap (λ (l : List ℕ). written l word) (front_part rest left))
-      ∙ take_at (take left rest) _ left (length-take_le left rest within)
+      ∙ take_at (take left rest) _ left (length-take-le left rest within)
       ∙ left_is
 
 -- the letters of a product, factor after factor
@@ -153,7 +153,7 @@ module _ (S : List (List ℕ)) (w word list : List ℕ) (size count : ℕ) (here
 
   module _ (filled : 0 < size) (short : size ≤ 63) (sized : length word ≡ 64) where
     left_filled : take size word ≡ [] → ⊥
-    left_filled = word_nonempty (take size word) (rw (length-take_le size word (omega arith)) filled)
+    left_filled = word_nonempty (take size word) (rw (length-take-le size word (omega arith)) filled)
 
     left_none : product_letters (63 - count) S (take size word) ≡ none → letters_in (eqb size 0) count list ≡ product_letters 63 S w
     unfolding letters_in
@@ -233,6 +233,6 @@ module _ (S : List (List ℕ)) (target word list : List ℕ) (size count : ℕ) 
   product-written {y} buffer e found few sized =
       let (p, is, spelt) = some_found found in
       let same : y ≡ record_of (map factor_byte p) = e ∙ ap record_of (front_part list count ∙ sym spelt) in
-      let short : length (map factor_byte p) ≤ 63 = rw (spelt, length-take_le count list (omega arith)) few in
+      let short : length (map factor_byte p) ≤ 63 = rw (spelt, length-take-le count list (omega arith)) few in
       let long : 64 ≡ length (record_of (map factor_byte p)) = sym (record-length (map factor_byte p) short) in
       ap₂ (λ (l : List ℕ) (k : ℕ). l ++ drop k buffer) same long ∙ sym (ap (λ (o : Option (List Factor)). product_after o buffer) is)

@@ -1,5 +1,7 @@
 // Writing a word as a product over a reduced system that is held in arrays: one factor after the other is found at the word's beginning and
 // taken off.
+#![tactic(auto)]
+
 ghost use Rattle.std.specs.Prelude.{◌<◌, ◌≤◌, ◌++◌, ◌≡◌, length, take};
 ghost use Rattle.std.proofs.Math.Option.{some};
 ghost use Rattle.words.specs.Alphabet.{bytes};

@@ -1,5 +1,7 @@
 // The search for a half-end move over words and, beside them, their inverses: it inverts nothing, counts the letters that they have in
 // common, and builds nothing.
+#![tactic(auto)]
+
 ghost use Rattle.std.specs.Prelude.{◌<◌, ◌≤◌, ◌≡◌, leb, get_or, length};
 ghost use Rattle.std.proofs.Math.Option.{none, some};
 ghost use Rattle.words.specs.Alphabet.{bytes};

@@ -6,7 +6,7 @@ use mathlib.Core.Path.{◌∙◌, ◌≡◌, ap, refl, sym}
 use native.Mathlib.Omega.{arith}
 use lib.Dec.{leb}
 use lib.ListN.{drop, get_or, length, length-append, length-take, take, take-append-drop}
-use lib.Seq.{get_or-append-add, get_or-take, take_all, take-append_seam, length-take_le}
+use lib.Seq.{get_or-append-add, get_or-take, take_all, take-append_seam, length-take-le}
 use borrow.Author.Tests.{le-leb, leb-false, leb-true, lt-leb}
 use Rattle.words.specs.Buffers.{written}
 use Rattle.systems.proofs.Logic.{bool_cases}
@@ -90,7 +90,7 @@ module _ (next kept : List ℕ) (size : ℕ) where
 
   kept_next : (i : ℕ) → size ≤ i → i < length kept → i < 1088 → i - size < length next → get_or (kept_after next kept size) i 0 ≡ get_or next (i - size) 0
   kept_next i h inside short came =
-      let front : length (take size kept) ≡ size = length-take_le size kept (omega arith) in
+      let front : length (take size kept) ≡ size = length-take-le size kept (omega arith) in
       let more : List ℕ = take (min 1088 (length kept) - size) next in
       let there : i - size < length more = omega (arith, length-take (min 1088 (length kept) - size) next) in
       get_or-rest (take size kept) _ i (omega (arith, front))

@@ -1,4 +1,6 @@
 // The program's input, which comes in parts: its first bytes are kept, and all are counted.
+#![tactic(auto)]
+
 ghost use Rattle.std.specs.Prelude.{◌+◌, ◌≤◌, ℕ, ◌≡◌, List, ◌++◌, length};
 ghost use Rattle.input.specs.Input.{Holds, counted, kept_after};
 

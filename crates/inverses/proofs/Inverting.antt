@@ -6,7 +6,7 @@ use native.Mathlib.Decide.{ℕ_discrete}
 use native.Mathlib.Nat.{zero-add}
 use native.Mathlib.Omega.{arith}
 use lib.ListN.{drop, get_or, length, length-drop, set, take}
-use lib.Seq.{drop-drop, get_or-set_other, length-take_le, take-take}
+use lib.Seq.{drop-drop, get_or-set_other, length-take-le, take-take}
 use borrow.Rule.Slice.PartMut.{put_mid}
 use Rattle.words.specs.Alphabet.{bytes}
 use Rattle.words.specs.Words.{inverse}
@@ -25,7 +25,7 @@ module _ (letters lengths : List ℕ) (k : ℕ) (inside : k < 16) (wide : length
   turned = take (k * 64 + get_or lengths k 0 - from) (drop from letters)
 
   turned_length : length turned ≡ k * 64 + get_or lengths k 0 - from
-  turned_length = length-take_le (k * 64 + get_or lengths k 0 - from) (drop from letters) (rw (length-drop from letters) (omega (arith, short k)))
+  turned_length = length-take-le (k * 64 + get_or lengths k 0 - from) (drop from letters) (rw (length-drop from letters) (omega (arith, short k)))
 
   -- without those before it they are the word
   word_last : drop (k * 64 - from) turned ≡ held_word letters lengths k

@@ -1,4 +1,6 @@
 // The inverses of the words held in arrays, formed beside them: of all, or of one.
+#![tactic(auto)]
+
 ghost use Rattle.std.specs.Prelude.{◌-◌, ◌<◌, ℕ, ◌≡◌, length};
 ghost use Rattle.words.specs.Alphabet.{bytes};
 ghost use Rattle.words.specs.Words.{inverse};

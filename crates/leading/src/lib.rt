@@ -1,4 +1,6 @@
 // The factor with which a word begins, over a reduced system that is held in arrays. The search counts letters and builds nothing.
+#![tactic(auto)]
+
 ghost use Rattle.std.specs.Prelude.{◌%◌, ◌<◌, ◌≡◌, length};
 ghost use Rattle.words.specs.Alphabet.{bytes};
 ghost use Rattle.systems.specs.Factoring.{leading};

@@ -1,4 +1,6 @@
 // The lines that the program prints, as bytes at the beginning of a buffer.
+#![tactic(auto)]
+
 ghost use Rattle.std.specs.Prelude.{◌+◌, ◌≤◌, ◌≡◌, ◌++◌, length};
 ghost use Rattle.words.specs.Buffers.{written, written_at};
 ghost use Rattle.lines.specs.Lines.{first_line, is_member, refusal_in, refusal_line};

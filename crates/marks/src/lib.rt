@@ -1,5 +1,7 @@
 // The pairs of slots that need not be tried again: those that are marked in a table, and those of a slot before the one changed last with
 // any slot but that one.
+#![tactic(auto)]
+
 ghost use Rattle.std.specs.Prelude.{◌*◌, ◌+◌, ◌-◌, ◌<◌, ◌≤◌, false, true, ◌⊎◌, ◌≡◌, get_or, length};
 ghost use Rattle.marks.specs.Marks.{Added, Outside, PairsSet};
 

@@ -1,4 +1,6 @@
 // Member: reduce, and then ask the reduced system about the target.
+#![tactic(auto)]
+
 ghost use Rattle.std.specs.Prelude.{◌*◌, ◌≤◌, ◌≡◌, length};
 ghost use Rattle.words.specs.Buffers.{written};
 ghost use Rattle.records.specs.declared.answers.Checked.TheVariants.{Fine};

@@ -6,7 +6,7 @@ use mathlib.Core.Path.{◌∙◌, ◌≡◌, ap, ap₂, refl, sym}
 use native.Mathlib.Omega.{arith}
 use lib.Dec.{eqb, leb}
 use lib.ListN.{drop, length, length-set, length-take, set, take}
-use lib.Seq.{length-take_le, take-append-le, take-take}
+use lib.Seq.{length-take-le, take-append-le, take-take}
 use borrow.Author.Tests.{le-leb, lt-leb}
 use borrow.Rule.Slice.PartMut.{put_mid, same_len_mid}
 use Rattle.words.specs.Alphabet.{bytes}
@@ -57,7 +57,7 @@ word_moved letters lengths t u v n m r k i e f told =
 
 -- its length is the number of letters in the buffer
 pub taken-length : (t w : List ℕ) (r : ℕ) → r ≤ length t → take r t ≡ w → r ≡ length w
-taken-length t w r h e = sym (length-take_le r t h) ∙ ap length e
+taken-length t w r h e = sym (length-take-le r t h) ∙ ap length e
 
 -- whether it fits
 pub move_long : (w : List ℕ) (r : ℕ) → r ≡ length w → 63 < r → false ≡ leb (length w) 63

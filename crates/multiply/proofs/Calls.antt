@@ -6,7 +6,7 @@ use mathlib.Core.Path.{◌∙◌, ◌≡◌, ap, sym}
 use native.Mathlib.Omega.{arith}
 use lib.Dec.{leb}
 use lib.ListN.{drop, length, take}
-use lib.Seq.{length-take_le}
+use lib.Seq.{length-take-le}
 use borrow.Author.Tests.{leb-true}
 use Rattle.words.specs.Buffers.{written}
 use Rattle.records.specs.Records.{record_of}
@@ -52,7 +52,7 @@ module _ (s p : List ℕ) (room : ℕ) {x : Checked} (tests : x ≡ multiply_tes
 
     module _ (list : List ℕ) (size : ℕ) (told : take size list ≡ product_word s p) (within : size ≤ 4096) (full : length list ≡ 4096) where
       comes_to : length (product_word s p) ≡ size
-      comes_to = ap length (sym told) ∙ length-take_le size list (omega arith)
+      comes_to = ap length (sym told) ∙ length-take-le size list (omega arith)
 
       -- refusal 12
       pub rules_told : {y : Checked} → y ≡ must (leb size 63) 12 0 → y ≡ multiply_rules s p room

@@ -5,7 +5,7 @@ use mathlib.Core.Path.{◌∙◌, ◌≡◌, ap, refl, sym}
 use native.Mathlib.Omega.{arith}
 use lib.Dec.{ltb}
 use lib.ListN.{drop, drop_of_length-le, get_or, length, take}
-use lib.Seq.{get_or-take, length-take_le}
+use lib.Seq.{get_or-take, length-take-le}
 use borrow.Author.Tests.{le-ltb, lt-ltb, ltb-true}
 use Rattle.words.proofs.Buffers.{drop_here}
 use Rattle.systems.proofs.ProductLaws.{Named}
@@ -32,7 +32,7 @@ module _ (b : ℕ) where
 -- refusal 9, one letter of the product after the other
 module _ (n count i : ℕ) (r : List ℕ) (sized : length r ≡ 64) (short : count ≤ 63) (told : take count r ≡ word_of r) where
   counted : length (word_of r) ≡ count
-  counted = ap length (sym told) ∙ length-take_le count r (omega arith)
+  counted = ap length (sym told) ∙ length-take-le count r (omega arith)
 
   pub letter_at : i < count → get_or (word_of r) i 0 ≡ get_or r i 0
   letter_at inside = ap (λ (l : List ℕ). get_or l i 0) (sym told) ∙ get_or-take count r i 0 inside

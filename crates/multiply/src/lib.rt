@@ -1,4 +1,6 @@
 // Multiply: a system and a product over its slots in, one freely reduced word out.
+#![tactic(auto)]
+
 ghost use Rattle.std.specs.Prelude.{◌+◌, ◌<◌, ◌≤◌, ◌++◌, ◌≡◌, length, take};
 ghost use Rattle.words.specs.Alphabet.{bytes};
 ghost use Rattle.words.specs.Words.{freely_reduce};

@@ -8,7 +8,7 @@ use mathlib.Core.Path.{◌∙◌, ◌≡◌, ap, refl, sym}
 use native.Mathlib.Omega.{arith}
 use lib.Dec.{eqb, leb}
 use lib.ListN.{drop, length, replicate, take}
-use lib.Seq.{length-take_le}
+use lib.Seq.{length-take-le}
 use borrow.Author.Tests.{eqb-false, eqb-true, le-leb, leb-true, lt-leb, not-true}
 use Rattle.words.specs.Alphabet.{bytes}
 use Rattle.words.proofs.Buffers.{front_part, rest_part}
@@ -80,7 +80,7 @@ module _ (records out : List ℕ) (least : 64 ≤ length records) where
   target_part = take (length records - (length records - 64)) (drop (length records - 64) records)
 
   parts_slots : (length records - 64) / 64 ≡ slots system_part
-  parts_slots = ap (λ (n : ℕ). n / 64) (sym (ap length (front_part records (length records - 64)) ∙ length-take_le (length records - 64) records (omega arith)))
+  parts_slots = ap (λ (n : ℕ). n / 64) (sym (ap length (front_part records (length records - 64)) ∙ length-take-le (length records - 64) records (omega arith)))
 
   parts_lines : lines_for system_part target_part ≡ answer_output records
   unfolding answer_output lines_for
@@ -121,7 +121,7 @@ module _ (size : ℕ) (passed : input_rules size ≡ Fine) where
 
   module _ (kept out : List ℕ) (all : size ≤ length kept) where
     kept_length : length (take size kept) ≡ size
-    kept_length = length-take_le size kept all
+    kept_length = length-take-le size kept all
 
     pub part_least : 64 ≤ length (take (size - 0) kept)
     part_least = rw (front_part kept size, kept_length) size_least
@@ -142,7 +142,7 @@ pub refused_from : (kept : List ℕ) (size : ℕ) {f : Refusal} → input_rules 
 unfolding output_from program_output
 refused_from kept size refused =
     elim (bool_cases (leb size (length kept))) [
-      | inl all ↦ rw (all, ap input_rules (length-take_le size kept (leb-true size (length kept) all)), refused) refl
+      | inl all ↦ rw (all, ap input_rules (length-take-le size kept (leb-true size (length kept) all)), refused) refl
       | inr missing ↦ rw (missing, refused) refl
     ]
 

@@ -8,7 +8,7 @@ use mathlib.Core.Path.{◌∙◌, ◌≡◌, ap, refl, sym}
 use native.Mathlib.Omega.{arith}
 use lib.Dec.{leb}
 use lib.ListN.{length, length-replicate, length-take, take}
-use lib.Seq.{ext_get_or, get_or-take, length-take_le}
+use lib.Seq.{ext_get_or, get_or-take, length-take-le}
 use borrow.Author.Tests.{le-leb, leb-false, leb-true, lt-leb, ne_eqb}
 use Rattle.words.specs.Alphabet.{bytes}
 use Rattle.systems.specs.Rules.{next, run_within}
@@ -46,7 +46,7 @@ rules_same n size (inr e) = long_refused size e.0 ∙ sym (long_refused n e.1)
 module _ (input kept : List ℕ) (size : ℕ) (holds : Holds input kept size) (room : 1088 ≤ length kept) where
   same-input : size ≡ length input → size ≤ 1088 → take size kept ≡ input
   same-input e short =
-      ext_get_or 0 (take size kept) input (length-take_le size kept (omega arith) ∙ e)
+      ext_get_or 0 (take size kept) input (length-take-le size kept (omega arith) ∙ e)
       (λ i inside.
       let before : i < size = omega (arith, length-take size kept) in
       get_or-take size kept i 0 before ∙ holds.first i (omega arith) (omega arith) (omega arith))

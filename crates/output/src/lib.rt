@@ -1,4 +1,6 @@
 // What the program prints, from what it read: the output, written into a lent buffer.
+#![tactic(auto)]
+
 ghost use Rattle.std.specs.Prelude.{◌≤◌, ℕ, List, ◌≡◌, length};
 ghost use Rattle.std.proofs.Math.Option.{some};
 ghost use Rattle.records.specs.declared.answers.Checked.TheVariants.{Fine};

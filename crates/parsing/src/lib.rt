@@ -1,4 +1,6 @@
 // The product reader and the factor reader, which call each other: the freely reduced word of a text that 16, 17 and 18 let through.
+#![tactic(auto)]
+
 ghost use Rattle.std.specs.Prelude.{◌<◌, ◌≤◌, true, ◌≡◌, drop, get_or, length};
 ghost use Rattle.scanning.specs.Exponents.{exponent_of};
 ghost use Rattle.powers.specs.Bounded.{Sound};

@@ -10,7 +10,7 @@ use native.Mathlib.Numerals.{add-one}
 use native.Mathlib.Omega.{arith}
 use lib.Dec.{leb}
 use lib.ListN.{length, take}
-use lib.Seq.{length-take_le}
+use lib.Seq.{length-take-le}
 use borrow.Author.Tests.{le-leb, lt-leb}
 use Rattle.words.specs.Alphabet.{bytes}
 use Rattle.words.specs.Buffers.{written}
@@ -31,18 +31,18 @@ long_sound letters e = record { whole = e; freely = λ h. absurd (omega arith) }
 module _ (row : List ℕ) (size : ℕ) (inside : size ≤ length row) (freely : freely_reduce bytes (take size row) ≡ take size row) where
   pub kept_long : (letters : List ℕ) → 63 < size → word_in (held letters 64) ≡ within (take size row)
   unfolding within word_in
-  kept_long letters h = rw (freely, length-take_le size row inside, lt-leb size 63 h)
+  kept_long letters h = rw (freely, length-take-le size row inside, lt-leb size 63 h)
 
   module _ (before after : List ℕ) (told : after ≡ written (take (size - 0) row) before) where
     copied : take size after ≡ take size row
-    copied = rw (told, front_part row size) (written-take (take size row) before size (length-take_le size row inside))
+    copied = rw (told, front_part row size) (written-take (take size row) before size (length-take-le size row inside))
 
     pub kept_sound : length after ≡ 128 → Sound (held after size)
     kept_sound e = record { whole = e; freely = λ h. rw copied freely }
 
     pub kept_short : size ≤ 63 → word_in (held after size) ≡ within (take size row)
     unfolding within word_in
-    kept_short h = rw (copied, freely, length-take_le size row inside, le-leb size 63 h)
+    kept_short h = rw (copied, freely, length-take-le size row inside, le-leb size 63 h)
 
 -- the word that a struct holds
 pub too_long_none : (w : Word) → 63 < w.length → word_in w ≡ none
@@ -74,7 +74,7 @@ module _ (row after : List ℕ) (size both : ℕ) (word : Word) (sound : Sound (
     (same : length after ≡ length row) (most : both ≤ size + length (take (word.length - 0) word.letters))
     (told : take both after ≡ freely_reduce bytes (take size row ++ take (word.length - 0) word.letters)) where
   both_length : length (take both after) ≡ both
-  both_length = length-take_le both after (omega (arith, sound.whole, front_short word.letters word.length 63 word_fits))
+  both_length = length-take-le both after (omega (arith, sound.whole, front_short word.letters word.length 63 word_fits))
 
   both_freely_reduced : freely_reduce bytes (take both after) ≡ take both after
   both_freely_reduced = pushed_freely_reduced (take size row ++ take (word.length - 0) word.letters) after both told

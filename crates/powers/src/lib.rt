@@ -1,4 +1,6 @@
 // Freely reduced words of at most 63 letters as values: products, powers and commutators, with a mark where one is longer.
+#![tactic(auto)]
+
 ghost use Rattle.std.specs.Prelude.{◌≤◌, [], ◌++◌, ◌∷◌, ◌≡◌, length, take};
 ghost use Rattle.std.proofs.Math.Option.{some};
 ghost use Rattle.words.specs.Alphabet.{bytes};

@@ -1,4 +1,6 @@
 // An answer printed: its lines put into a lent buffer, where there is room for them all.
+#![tactic(auto)]
+
 ghost use Rattle.std.specs.Prelude.{◌*◌, ◌≤◌, cond, ◌++◌, ◌≡◌, length};
 ghost use Rattle.std.proofs.Math.Option.{some};
 ghost use Rattle.lines.specs.Lines.{answer_lines, is_member, lines_after, refusal_in, refusal_line};

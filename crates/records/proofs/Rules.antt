@@ -9,7 +9,7 @@ use native.Mathlib.Numerals.{add-one}
 use native.Mathlib.Omega.{arith}
 use lib.Dec.{eqb, ltb}
 use lib.ListN.{drop, drop_of_length-le, get_or, length, length-drop, take}
-use lib.Seq.{get_or-drop, get_or-take, length-take_le, take-suc}
+use lib.Seq.{get_or-drop, get_or-take, length-take-le, take-suc}
 use borrow.Author.Tests.{eq-eqb, eqb-true, le-leb, le-ltb, lt-leb, lt-ltb, ne_eqb}
 use Rattle.words.proofs.Buffers.{drop_here, rest_part}
 use Rattle.records.specs.Records.{before_stop, is_letter, is_letter_or_stop, is_stop, not_letter, word_of}
@@ -153,12 +153,12 @@ module _ (s : List ℕ) (at : ℕ) where
 all_letters : (n i : ℕ) (r : List ℕ) {w : List ℕ} → n ≤ i → i ≤ n → n ≤ length r
     → w ≡ take i r ++ before_stop (drop i (take n r)) → take n r ≡ w
 all_letters n i r h l room e =
-    rw (e, le_antisymm l h, drop_of_length-le (take n r) (le_of_eq (length-take_le n r room)), append-nil)
+    rw (e, le_antisymm l h, drop_of_length-le (take n r) (le_of_eq (length-take-le n r room)), append-nil)
 
 -- the word in a record, up to the first full stop
 module _ (r : List ℕ) (i : ℕ) (here : word_of r ≡ take i r ++ before_stop (drop i (take 63 r))) (sized : length r ≡ 64) where
   within : (h : i < 63) → drop i (take 63 r) ≡ get_or r i 0 ∷ drop (i + 1) (take 63 r)
-  within h = rw (drop_here (take 63 r) i (rw (length-take_le 63 r (omega arith)) h), get_or-take)
+  within h = rw (drop_here (take 63 r) i (rw (length-take-le 63 r (omega arith)) h), get_or-take)
 
   pub word_stop : i < 63 → get_or r i 0 ≡ 46 → take i r ≡ word_of r
   word_stop h stop = rw (here, within h, eq-eqb _ _ stop, append-nil)

@@ -9,7 +9,7 @@ use mathlib.Core.Path.{◌∙◌, ◌≡◌, ap, refl, sym}
 use native.Mathlib.Decide.{dec_lt}
 use native.Mathlib.Omega.{arith}
 use lib.ListN.{length, length-map, take}
-use lib.Seq.{length-take_le}
+use lib.Seq.{length-take-le}
 use Rattle.words.specs.Alphabet.{bytes}
 use Rattle.words.specs.Buffers.{written}
 use Rattle.words.specs.Words.{freely_reduce}
@@ -272,7 +272,7 @@ module _ (s log : List ℕ) (tests : Checked) (passed : tests ≡ Fine) (enough 
         refused = (over, λ h. rw told (stops.1 (stopped_fit.1 h)));
         first_that_fit =
             λ e.
-            let count : length (run_moves s (room_for log)) ≡ room_for log = ap length first ∙ length-take_le (room_for log) (run_moves s enough) (omega (arith, over e)) in
+            let count : length (run_moves s (room_for log)) ≡ room_for log = ap length first ∙ length-take-le (room_for log) (run_moves s enough) (omega (arith, over e)) in
             ap (λ (k : ℕ). take (k * move_size) log') (sym count) ∙ logged_moves s log log' tests passed logged ∙ ap log_of first;
       }
 

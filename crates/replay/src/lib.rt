@@ -1,4 +1,6 @@
 // Replay: a system and a log in, the system after the log's moves out, forward or backward.
+#![tactic(auto)]
+
 ghost use Rattle.std.specs.Prelude.{◌<◌, ◌≡◌};
 ghost use Rattle.records.specs.declared.answers.Checked.TheVariants.{Fine};
 ghost use Rattle.slots.specs.Held.{Held, held};

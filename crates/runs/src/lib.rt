@@ -1,4 +1,6 @@
 // The run of moves: the next move is found, made and logged until neither rule applies or the log is full.
+#![tactic(auto)]
+
 ghost use Rattle.std.specs.Prelude.{◌*◌, ◌+◌, ◌-◌, ◌<◌, ◌≤◌, ◌++◌, ◌≡◌, drop, length, take};
 ghost use Rattle.words.specs.Alphabet.{bytes};
 ghost use Rattle.words.specs.Buffers.{written};

@@ -1,4 +1,6 @@
 // The search for a shortening move over words and, beside them, their inverses: it inverts nothing, counts what cancels, and builds nothing.
+#![tactic(auto)]
+
 ghost use Rattle.std.specs.Prelude.{◌-◌, ◌/◌, ◌<◌, ◌≤◌, max, min, ℕ, false, ◌≡◌, get_or, length};
 ghost use Rattle.words.specs.Alphabet.{bytes};
 ghost use Rattle.systems.specs.Moves.{seam};

@@ -1,4 +1,6 @@
 // Show: the reduced record of a slot, or the given record where that slot is blank.
+#![tactic(auto)]
+
 ghost use Rattle.std.specs.Prelude.{◌≡◌};
 ghost use Rattle.show.specs.Show.{shown};
 

@@ -1,4 +1,6 @@
 // Runs show, which has no entry for C, on the cases of the separate Rust version's file show-cases.txt, and prints the parts that it hands back.
+#![tactic(auto)]
+
 ghost use Rattle.std.specs.Prelude.{◌≤◌};
 
 // Puts texts with a space between them into records: each begins a record, and full stops fill it up to its line feed.

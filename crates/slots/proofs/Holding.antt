@@ -7,7 +7,7 @@ use native.Mathlib.Nat.{suc-add, zero-add}
 use native.Mathlib.Numerals.{add-one}
 use native.Mathlib.Omega.{arith}
 use lib.ListN.{get_or-eq_default, drop, get_or, length, length-drop, length-replicate, length-set, length-take, replicate, set, take}
-use lib.Seq.{drop_at, drop-drop, ext_get_or, get_or-set_other, get_or-set_same, length-take_le, take-append-le, take_at, take-nil, take-take}
+use lib.Seq.{drop_at, drop-drop, ext_get_or, get_or-set_other, get_or-set_same, length-take-le, take-append-le, take_at, take-nil, take-take}
 use borrow.Rule.Slice.PartMut.{put_mid, same_len_mid}
 use Rattle.words.specs.Alphabet.{bytes}
 use Rattle.words.specs.Words.{freely_reduce}
@@ -47,7 +47,7 @@ held_word_lem n k letters lengths h = below_at (held_word letters lengths) n k [
 pub held-size : (letters lengths : List ℕ) (k : ℕ) → k < 16 → length letters ≡ 1024 → Short lengths
     → length (held_word letters lengths k) ≡ get_or lengths k 0
 held-size letters lengths k inside wide short =
-    length-take_le (get_or lengths k 0) (drop (k * 64) letters) (rw (length-drop (k * 64) letters) (omega (arith, short k)))
+    length-take-le (get_or lengths k 0) (drop (k * 64) letters) (rw (length-drop (k * 64) letters) (omega (arith, short k)))
 
 -- it has at most 63 letters and is freely reduced
 pub held-short : (letters lengths w : List ℕ) (k : ℕ) → Short lengths → w ≡ held_word letters lengths k → length w ≤ 63
@@ -124,15 +124,15 @@ short_put lengths k r short h j = elim (ℕ_discrete j k) [
 -- a part of 64 places that was lent and came back
 module _ (a e : ℕ) (s y : List ℕ) (whole : e ≡ a + 64) (room : a + 64 ≤ length s) (sized : length y ≡ length (take (e - a) (drop a s))) where
   part_sized : length y ≡ 64
-  part_sized = sized ∙ length-take_le (e - a) (drop a s) (rw (length-drop a s) (omega arith)) ∙ omega arith
+  part_sized = sized ∙ length-take-le (e - a) (drop a s) (rw (length-drop a s) (omega arith)) ∙ omega arith
 
   pub back_below : take a (take a s ++ (y ++ drop (e - a) (drop a s))) ≡ take a s
-  back_below = take_at (take a s) _ a (length-take_le a s (omega arith))
+  back_below = take_at (take a s) _ a (length-take-le a s (omega arith))
 
   pub back_here : drop a (take a s ++ (y ++ drop (e - a) (drop a s))) ≡ y ++ drop (a + 64) s
   back_here =
       let rest : a + (e - a) ≡ a + 64 = omega arith in
-      drop_at (take a s) _ a (length-take_le a s (omega arith))
+      drop_at (take a s) _ a (length-take-le a s (omega arith))
       ∙ ap (λ (t : List ℕ). y ++ t) (drop-drop (e - a) a s ∙ ap (λ (k : ℕ). drop k s) rest)
 
   pub back_above : drop (a + 64) (take a s ++ (y ++ drop (e - a) (drop a s))) ≡ drop (a + 64) s

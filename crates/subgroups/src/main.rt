@@ -1,5 +1,7 @@
 // Reads records from standard input, the last one the target and the earlier ones the system, and writes to standard output what the
 // crate output makes of them: the reduced system, the log and, for a member, the product; or one line that says why the input is refused.
+#![tactic(auto)]
+
 mod reading;
 
 use crate::reading::read_input;

@@ -1,4 +1,6 @@
 // The entries for C. Each calls the proved function of its name and puts the answer's numbers into a fixed array, which C sees as a struct.
+#![tactic(auto)]
+
 ghost use Rattle.std.specs.Prelude.{◌≡◌};
 ghost use Rattle.records.specs.Answers.{refusal_number, refusal_place, verdict_number};
 ghost use Rattle.tidy.specs.Tidy.{tidy_answer, tidy_buffer};

@@ -1,5 +1,6 @@
 // Texts with powers and commutators: the trees that they spell, the words that these stand for and their refusals, with the laws about
 // them. Its code is the signs of a text by name, and what a scan of a text read last.
+#![tactic(auto)]
 
 // The signs of a text: a group stands between ( and ), a bracket between [ and ] with a comma, a power after a caret.
 pub const GROUP_OPENS: u8 = 40;

@@ -8,7 +8,7 @@ use mathlib.Core.List.{List}
 use native.Mathlib.Omega.{arith}
 use lib.Dec.{leb}
 use lib.ListN.{length, take}
-use lib.Seq.{length-take_le}
+use lib.Seq.{length-take-le}
 use borrow.Author.Tests.{eqb-true, eq-eqb}
 use Rattle.words.specs.Alphabet.{Alphabet}
 use Rattle.words.specs.Words.{inverse, signed, common_prefix}
@@ -22,14 +22,14 @@ module _ {A : Type 0} (G : Alphabet A) (L : AlphabetLaws G) where
   -- a word begins with the first m letters of another
   begins_to : (m : ℕ) (w v : List A) → m ≤ length w → begins G (take m w) v ≡ true → m ≤ common_prefix G w v
   begins_to m w v h e =
-      let n : length (take m w) ≡ m = length-take_le m w h in
+      let n : length (take m w) ≡ m = length-take-le m w h in
       let b : take m v ≡ take m w = rw n at (common_prefix-begins G L (take m w) v (eqb-true _ _ e)) in
       common_prefix-most G L m w v h (sym b)
 
   begins_of : (m : ℕ) (w v : List A) → m ≤ common_prefix G w v → begins G (take m w) v ≡ true
   begins_of m w v c =
       let h : m ≤ length w = omega (arith, common_prefix_le_left G L w v) in
-      eq-eqb _ _ (begins-common_prefix G L (take m w) v (rw (length-take_le m w h) (sym (common_prefix_agree G L m w v c))))
+      eq-eqb _ _ (begins-common_prefix G L (take m w) v (rw (length-take-le m w h) (sym (common_prefix_agree G L m w v c))))
 
   -- the second half read backward is the first half of the inverse
   pub back_half : (w : List A) → length w % 2 ≡ 0 → inverse G (second_half G w) ≡ first_half G (inverse G w)

@@ -1,4 +1,6 @@
 // Words as people write them, with powers and commutators: read gives the freely reduced record of a text, write the text of a record.
+#![tactic(auto)]
+
 ghost use Rattle.std.specs.Prelude.{length, ◌≡◌};
 ghost use Rattle.text.specs.Meaning.{ReadMeans, WriteMeans};
 ghost use Rattle.text.specs.Read.{read_answer, read_buffer, read_rules, read_tests};

@@ -1,4 +1,6 @@
 // Tidy: freely reduce every record of a system.
+#![tactic(auto)]
+
 ghost use Rattle.std.specs.Prelude.{◌≡◌};
 ghost use Rattle.tidy.specs.Tidy.{tidy_answer, tidy_buffer};
 

@@ -6,7 +6,7 @@ use native.Mathlib.Nat.{le_antisymm, suc-add, zero-add}
 use native.Mathlib.Numerals.{add-one}
 use native.Mathlib.Omega.{arith}
 use lib.ListN.{drop, drop_of_length-le, get_or, length, length-append, length-drop, length-set, length-take, set, take}
-use lib.Seq.{drop-append_seam, drop-cons, drop-drop, drop-length, drop-nil, length-take_le, set_at, set_split, take_all, take-append_seam, take_at, take-length, take-suc}
+use lib.Seq.{drop-append_seam, drop-cons, drop-drop, drop-length, drop-nil, length-take-le, set_at, set_split, take_all, take-append_seam, take_at, take-length, take-suc}
 use borrow.Rule.Slice.PartMut.{put_mid}
 use Rattle.words.specs.Buffers.{written, written_at}
 
@@ -31,7 +31,7 @@ rest_part s k = take_all (length s - k) (drop k s) (omega (arith, length-drop k 
 module _ (w d : List ℕ) (i : ℕ) (inside : i < length w) (room : length w ≤ length d) where
   copy_suc : set (take i w ++ drop i d) i (get_or w i 0) ≡ take (suc i) w ++ drop (suc i) d
   copy_suc =
-      rw (drop-cons d i 0 (omega arith), set_at (take i w) _ _ _ i (length-take_le i w (omega arith)), take-suc w i 0, append_assoc)
+      rw (drop-cons d i 0 (omega arith), set_at (take i w) _ _ _ i (length-take-le i w (omega arith)), take-suc w i 0, append_assoc)
 
   pub copy_more : {out : List ℕ} → out ≡ take i w ++ drop i d → set out i (get_or w i 0) ≡ take (i + 1) w ++ drop (i + 1) d
   copy_more e = rw (e, add-one) copy_suc

@@ -6,7 +6,7 @@ use mathlib.Core.List.{List, [], ◌∷◌, ◌++◌, append_assoc, append-nil}
 use native.Mathlib.Omega.{arith}
 use native.Mathlib.Decide.{dec_lt}
 use lib.ListN.{length, get_or, take, drop, take-append-drop, length-append, length-take, length-drop}
-use lib.Seq.{take-suc, take_at, take-length, take-take, length-take_le}
+use lib.Seq.{take-suc, take_at, take-length, take-take, length-take-le}
 use Rattle.words.specs.Alphabet.{Alphabet}
 use Rattle.words.specs.Words.{freely_reduce, Irreducible, inverse, common_prefix, common_suffix, cancellation}
 use Rattle.words.proofs.Alphabet.{AlphabetLaws, same_yes, same_no, same?, flip_inj}
@@ -201,7 +201,7 @@ module _ {A : Type 0} (G : Alphabet A) (L : AlphabetLaws G) where
       → take (length u - cancellation G u v) (freely_reduce G (u ++ v)) ≡ take (length u - cancellation G u v) u
   freely_reduce-begins u v h k = let c : ℕ = cancellation G u v in
       rw (freely_reduce-cancellation u v h k)
-      (take_at (take (length u - c) u) (drop c v) (length u - c) (length-take_le (length u - c) u (omega arith)))
+      (take_at (take (length u - c) u) (drop c v) (length u - c) (length-take-le (length u - c) u (omega arith)))
 
   -- half of a word of even length: the word would be an inverse and the word after it
   self_even : (w : List A) (m : ℕ) → Irreducible G w → length w ≡ m + m → m ≤ cancellation G w w → 0 < length w → ⊥

@@ -6,7 +6,7 @@ use mathlib.Core.Path.{◌∙◌, ◌≡◌, ap, ap₂, sym}
 use native.Mathlib.Numerals.{add-one}
 use native.Mathlib.Omega.{arith}
 use lib.ListN.{drop, get_or, length, length-drop, set, take}
-use lib.Seq.{drop-cons, drop-length, length-take_le, take-append-add, take-append_seam, take-suc-set, take-take}
+use lib.Seq.{drop-cons, drop-length, length-take-le, take-append-add, take-append_seam, take-suc-set, take-take}
 use borrow.Rule.Slice.PartMut.{put_mid}
 use Rattle.words.specs.Alphabet.{bytes, flip_byte}
 use Rattle.words.specs.Buffers.{written}
@@ -43,7 +43,7 @@ module _ (b : Bool) (s w : List ℕ) (n c : ℕ) (inside : c ≤ length w) (room
   pub plain-rest : (y : List ℕ) → b ≡ false → y ≡ written (take (length w - c) (drop c w)) (take (length s - n) (drop n s))
       → take (n + length w - c) (put_mid n (length s - n) s y) ≡ take n s ++ drop c (signed bytes b w)
   plain-rest y plain e =
-      let long : length (take n s) ≡ n = length-take_le n s (omega arith) in
+      let long : length (take n s) ≡ n = length-take-le n s (omega arith) in
       let size : n + length w - c ≡ length (take n s) + length (drop c w) = omega (arith, long, length-drop c w) in
       rw plain
       (ap (λ (k : ℕ). take k (put_mid n (length s - n) s y)) size
@@ -55,7 +55,7 @@ module _ (b : Bool) (s w : List ℕ) (n c : ℕ) (inside : c ≤ length w) (room
       ∙ take-append_seam (drop c w) _))
 
   size : length (take (length w - c - 0) w) ≡ length w - c
-  size = ap length (front_part w (length w - c)) ∙ length-take_le (length w - c) w (omega arith)
+  size = ap length (front_part w (length w - c)) ∙ length-take-le (length w - c) w (omega arith)
 
   pub inverse-rest : (t : List ℕ) → b ≡ true
       → take (n + length (take (length w - c - 0) w)) t ≡ take n s ++ inverse bytes (take (length w - c - 0) w)
@@ -77,7 +77,7 @@ module _ (b : Bool) (s w : List ℕ) (n c : ℕ) (told : c ≡ common_prefix byt
       → take (n - c + length w - c) t ≡ take (n - c) s ++ drop c (signed bytes b w)
       → take (n - c + length w - c) t ≡ freely_reduce bytes (take n s ++ signed bytes b w)
   push-product t room freely word e =
-      let long : length (take n s) ≡ n = length-take_le n s (omega arith) in
+      let long : length (take n s) ≡ n = length-take-le n s (omega arith) in
       let kept : length (take n s) - cancellation bytes (take n s) (signed bytes b w) ≡ n - c = omega (arith, counted) in
       e ∙ sym
       (freely_reduce-cancellation bytes byte_laws (take n s) (signed bytes b w) (irreducible_of_same bytes byte_laws (take n s) freely)

@@ -1,4 +1,6 @@
 // The text of a word, written run by run.
+#![tactic(auto)]
+
 ghost use Rattle.std.specs.Prelude.{◌*◌, ◌+◌, ◌<◌, ◌≤◌, [], ◌∷◌, ◌≡◌, drop, get_or, length};
 ghost use Rattle.words.specs.Buffers.{written, written_at};
 ghost use Rattle.syntax.specs.WordTexts.{numeral, power_text, run, run_text, runs, small_of, text_of};

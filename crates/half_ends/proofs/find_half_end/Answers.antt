@@ -1,0 +1,10 @@
+-- `half_ends::find_half_end` meets its contract.
+use borrow.Author.Rules.{rules}
+use Rattle.half_ends.proofs.HalfSearch.{none_chosen, some_chosen}
+use Rattle.half_ends.proofs.find_half_end.Goals as goal
+
+pub returns-then-h-n-clause-found : goal.returns-then-h-n-clause-found
+returns-then-h-n-clause-found c = search (none_chosen, rules)
+
+pub half_end_by-requires-clause-n_value : goal.half_end_by-requires-clause-n_value
+half_end_by-requires-clause-n_value c = search (some_chosen, rules)

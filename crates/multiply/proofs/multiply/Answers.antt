@@ -1,0 +1,35 @@
+-- `multiply::multiply` meets its contract.
+use borrow.Author.Rules.{rules}
+use Rattle.records.proofs.Chains.{answered, changed, unchanged}
+use Rattle.multiply.proofs.Calls.{passed_product, passed_room, passed_short, passed_size, passed_slots, piece_short, rules_failed, rules_told, word-written}
+use Rattle.multiply.proofs.multiply.Goals as goal
+
+pub returns-in_default : goal.returns-in_default
+returns-in_default c = search (answered, unchanged, rules_failed, rules)
+
+pub product_word-size-requires : goal.product_word-size-requires
+product_word-size-requires c = search (passed_size, passed_product, passed_slots, rules)
+
+pub returns-in_default-fitted-clause-answer : goal.returns-in_default-fitted-clause-answer
+returns-in_default-fitted-clause-answer c = search (answered, rules_told, rules)
+
+pub returns-in_default-fitted-clause-word : goal.returns-in_default-fitted-clause-word
+returns-in_default-fitted-clause-word c = search (unchanged, rules_told, rules)
+
+pub slice_bounds-write_record-end : goal.slice_bounds-write_record-end
+slice_bounds-write_record-end c = search (passed_short, rules)
+
+pub slice_bounds-write_record-end-2 : goal.slice_bounds-write_record-end-2
+slice_bounds-write_record-end-2 c = search (passed_room, rules)
+
+pub write_record-requires-clause-word_len_bound : goal.write_record-requires-clause-word_len_bound
+write_record-requires-clause-word_len_bound c = search (piece_short, rules)
+
+pub write_record-requires-clause-out_len : goal.write_record-requires-clause-out_len
+write_record-requires-clause-out_len c = search (passed_room, rules)
+
+pub returns-clause-answer : goal.returns-clause-answer
+returns-clause-answer c = search (answered, rules_told, rules)
+
+pub returns-clause-word : goal.returns-clause-word
+returns-clause-word c = search (changed, rules_told, word-written, passed_short, rules)

@@ -1,0 +1,10 @@
+-- `words::product::append_rest` meets its contract.
+use borrow.Author.Rules.{rules}
+use Rattle.words.proofs.Joining.{inverse-rest, plain-rest}
+use Rattle.words.proofs.product.append_rest.Goals as goal
+
+pub returns-then-inverted : goal.returns-then-inverted
+returns-then-inverted c = search (inverse-rest, rules)
+
+pub returns-else-inverted : goal.returns-else-inverted
+returns-else-inverted c = search (plain-rest, rules)
