@@ -21,7 +21,7 @@ use words::letters::copy;
 use words::product::push_signed;
 
 // The factors taken off a word: how many there are, and whether they are the whole of it.
-#[derive(Drop)]
+#[derive(Clone, Copy)]
 struct Factored {
     count: usize,
     whole: bool,

@@ -11,14 +11,14 @@ use slots::held::word_at;
 use words::cancel::common_prefix_signed;
 
 // A factor: the word of a slot, or its inverse.
-#[derive(Drop)]
+#[derive(Clone, Copy)]
 pub struct Factor {
     pub slot: usize,
     pub inverted: bool,
 }
 
 // What leads a word.
-#[derive(Drop)]
+#[derive(Clone, Copy)]
 pub enum Lead {
     Factor(Factor),
     Nothing,

@@ -6,7 +6,7 @@ ghost use Rattle.std.specs.Prelude.{◌*◌, ◌+◌, ◌-◌, ◌<◌, ◌≤�
 ghost use Rattle.marks.specs.Marks.{Added, Outside, PairsSet};
 
 // The slots from one up to, but without, another.
-#[derive(Drop)]
+#[derive(Clone, Copy)]
 pub struct Slots {
     pub from: usize,
     pub to: usize,

@@ -1,7 +1,7 @@
 // A move as the functions hand it on, and what a search for a move finds.
 
 // A move: the changed slot, the form, counted from 0, and the other slot.
-#[derive(Drop)]
+#[derive(Clone, Copy)]
 pub struct Move {
     pub changed: usize,
     pub form: usize,
@@ -9,7 +9,7 @@ pub struct Move {
 }
 
 // What a search finds.
-#[derive(Drop)]
+#[derive(Clone, Copy)]
 pub enum Found {
     Move(Move),
     Nothing,

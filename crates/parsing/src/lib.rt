@@ -19,7 +19,7 @@ pub struct Reading {
 }
 
 // The product at the beginning of a text in which so many more signs may nest.
-#[cycle(bracket_factor_product)]
+#[cycle(reader)]
 pub fn product(text: &[u8], room: usize) -> Reading
     requires { Readable room text.now }
     ensures sound { Sound result.word }
@@ -44,7 +44,7 @@ pub fn product(text: &[u8], room: usize) -> Reading
 }
 
 // The factor at the beginning of a text that starts with one.
-#[cycle(bracket_factor_product)]
+#[cycle(reader)]
 fn factor(text: &[u8], room: usize) -> Reading
     requires readable { Readable room text.now }
     requires text_nonzero { (0 < length text.now) × (starts_factor (get_or text.now 0 0) ≡ true) }
@@ -66,7 +66,7 @@ fn factor(text: &[u8], room: usize) -> Reading
 }
 
 // The bracket at the beginning of a text that starts with one.
-#[cycle(bracket_factor_product)]
+#[cycle(reader)]
 fn bracket(text: &[u8], room: usize) -> Reading
     requires readable { Readable room text.now }
     requires text_value { get_or text.now 0 0 ≡ 91 }

@@ -2,7 +2,7 @@
 
 // The whole output was written, with so many bytes; or nothing was, because the output has so many bytes and the lent buffer fewer, or
 // because the input's length is not refused and fewer bytes were kept.
-#[derive(Drop)]
+#[derive(Clone, Copy)]
 pub enum Printed {
     Whole(usize),
     Short(usize),

@@ -4,21 +4,21 @@ ghost use Rattle.records.specs.Answers.{answer_of};
 ghost use Rattle.records.specs.Refusals.{must};
 
 // A refusal: its number, and the place that it names.
-#[derive(Drop)]
+#[derive(Clone, Copy)]
 pub struct Refusal {
     pub number: u8,
     pub place: usize,
 }
 
 // What a test finds: nothing, or the refusal that ends the call.
-#[derive(Drop)]
+#[derive(Clone, Copy)]
 pub enum Checked {
     Fine,
     Failed(Refusal),
 }
 
 // The verdict that every answer carries.
-#[derive(Drop)]
+#[derive(Clone, Copy)]
 pub enum Verdict {
     Done,
     Member,
@@ -27,7 +27,7 @@ pub enum Verdict {
 }
 
 // The answer of a call that gives nothing but its verdict.
-#[derive(Drop)]
+#[derive(Clone, Copy)]
 pub struct Answer {
     pub verdict: Verdict,
 }

@@ -2,7 +2,7 @@
 use records::answers::Verdict;
 
 // The answer of reduce and of member: the number of moves made, the rank, and whether the given words are independent.
-#[derive(Drop)]
+#[derive(Clone, Copy)]
 pub struct Reduction {
     pub verdict: Verdict,
     pub moves: usize,
@@ -11,7 +11,7 @@ pub struct Reduction {
 }
 
 // The answer of test: whether the system is reduced.
-#[derive(Drop)]
+#[derive(Clone, Copy)]
 pub struct Tested {
     pub verdict: Verdict,
     pub reduced: bool,

@@ -22,7 +22,7 @@ use slots::held::{load, store};
 
 // What the reduction of a system came to: the moves made, the rank, whether no slot is blank, which is the verdict on independence,
 // and refusal 13 where the run did not end.
-#[derive(Drop)]
+#[derive(Clone, Copy)]
 pub struct Summary {
     pub moves: usize,
     pub rank: usize,

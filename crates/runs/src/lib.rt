@@ -58,7 +58,7 @@ pub fn is_nothing(found: Found) -> bool
 }
 
 // What a run came to: how many moves were made, and whether neither rule applies any more.
-#[derive(Drop)]
+#[derive(Clone, Copy)]
 pub struct Ran {
     pub moves: usize,
     pub ended: bool,

@@ -6,7 +6,7 @@ ghost use Rattle.scanning.specs.Exponents.{digits_exponent, exponent_of, has_sec
 use syntax::{CARET, MINUS};
 
 // A power as it is written: whether there is one, its sign and number, and how many bytes it has.
-#[derive(Drop)]
+#[derive(Clone, Copy)]
 pub struct Exponent {
     pub present: bool,
     pub minus: bool,

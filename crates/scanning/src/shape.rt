@@ -17,7 +17,7 @@ const FIRST: u8 = 1;
 const SECOND: u8 = 2;
 
 // What one byte more leads to: whether a text may go on with it, and what was read last and how many signs are open then.
-#[derive(Drop)]
+#[derive(Clone, Copy)]
 pub struct Scanned {
     pub taken: bool,
     pub mode: Mode,

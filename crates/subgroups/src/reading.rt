@@ -12,7 +12,7 @@ pub struct Input {
 }
 
 // What one read gave: so many bytes, 0 at the end of the input, the count of all that have come, and whether it failed.
-#[derive(Drop)]
+#[derive(Clone, Copy)]
 pub struct Part {
     pub got: usize,
     pub size: usize,

@@ -18,7 +18,7 @@ pub const BRACKET_CLOSES: u8 = 93;
 pub const CARET: u8 = 94;
 
 // What was read last: nothing that a power may follow, a factor without its power, a caret, a caret and a minus sign, the first digit of a power.
-#[derive(Drop)]
+#[derive(Clone, Copy)]
 pub enum Mode {
     Ready,
     After,

@@ -19,7 +19,7 @@ use writing::write_word;
 const TEXT_ROOM: usize = 256;
 
 // The answer of write: the verdict, and how many bytes its text has.
-#[derive(Drop)]
+#[derive(Clone, Copy)]
 pub struct Writing {
     pub verdict: Verdict,
     pub length: usize,

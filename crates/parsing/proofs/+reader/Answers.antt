@@ -1,0 +1,92 @@
+-- The product's calls the factor's at a part that may be the whole text, the factor's hands a bracket on with the whole text, and both of
+-- these call the product's at a shorter part.
+use borrow.Author.Rules.{rules}
+use Rattle.parsing.proofs.Readers.{bracket-before_end, bracket-middle, bracket-room, bracket_calls, bracket_calls_again, bracket_end, bracket_power, bracket_readable, bracket_readable_too, factor_calls, factor_full, factor_hands_on, factor_inside, factor_less, factor_readable, factor_starts, group-room, group_end, group_power, group_readable, kept_again, kept_first, letter_power, product_calls, read_all, read_bracket, read_end, read_group, read_letter, size_fits}
+use Rattle.parsing.proofs.+reader.Goals as goal
+
+pub bracket-overflow_sub-room : goal.bracket-overflow_sub-room
+bracket-overflow_sub-room t c = search (bracket-room, rules)
+
+pub bracket-product-first-requires : goal.bracket-product-first-requires
+bracket-product-first-requires t c = (search (bracket_calls, rules), search (bracket_readable, rules))
+
+pub bracket-overflow_add-middle : goal.bracket-overflow_add-middle
+bracket-overflow_add-middle t c = search (size_fits, bracket-middle, rules)
+
+pub bracket-slice_bounds-product-count-2 : goal.bracket-slice_bounds-product-count-2
+bracket-slice_bounds-product-count-2 t c = search (bracket-middle, rules)
+
+pub bracket-slice_bounds-product-start-2 : goal.bracket-slice_bounds-product-start-2
+bracket-slice_bounds-product-start-2 t c = search (bracket-middle, rules)
+
+pub bracket-overflow_sub-room-2 : goal.bracket-overflow_sub-room-2
+bracket-overflow_sub-room-2 t c = search (bracket-room, rules)
+
+pub bracket-product-second-requires : goal.bracket-product-second-requires
+bracket-product-second-requires t c = (search (bracket_calls_again, rules), search (bracket_readable_too, rules))
+
+pub bracket-overflow_add-end : goal.bracket-overflow_add-end
+bracket-overflow_add-end t c = search (size_fits, bracket-before_end, rules)
+
+pub bracket-overflow_add-end-2 : goal.bracket-overflow_add-end-2
+bracket-overflow_add-end-2 t c = search (size_fits, bracket_end, rules)
+
+pub bracket-powered-requires-clause-at_in_bounds : goal.bracket-powered-requires-clause-at_in_bounds
+bracket-powered-requires-clause-at_in_bounds t c = search (bracket_end, bracket_power, rules)
+
+pub bracket-returns-clause-reads : goal.bracket-returns-clause-reads
+bracket-returns-clause-reads t c = search (read_bracket, c.requires.text_value, rules)
+
+pub factor-bracket-requires : goal.factor-bracket-requires
+factor-bracket-requires t c = (search (factor_hands_on, rules), search rules)
+
+pub factor-overflow_sub-room : goal.factor-overflow_sub-room
+factor-overflow_sub-room t c = search (group-room, rules)
+
+pub factor-product-inner-requires : goal.factor-product-inner-requires
+factor-product-inner-requires t c = (search (factor_calls, rules), search (group_readable, rules))
+
+pub factor-overflow_add-end : goal.factor-overflow_add-end
+factor-overflow_add-end t c = search (size_fits, group_end, rules)
+
+pub factor-powered-requires-clause-at_in_bounds : goal.factor-powered-requires-clause-at_in_bounds
+factor-powered-requires-clause-at_in_bounds t c = search (group_end, group_power, rules)
+
+pub factor-returns-then-b-eq-GROUP_OPENS-clause-reads : goal.factor-returns-then-b-eq-GROUP_OPENS-clause-reads
+factor-returns-then-b-eq-GROUP_OPENS-clause-reads t c = search (read_group, rules)
+
+pub factor-powered-requires-2-clause-at_in_bounds : goal.factor-powered-requires-2-clause-at_in_bounds
+factor-powered-requires-2-clause-at_in_bounds t c = search (letter_power, rules)
+
+pub factor-returns-clause-reads : goal.factor-returns-clause-reads
+factor-returns-clause-reads t c = search (read_letter, rules)
+
+pub product-loop-at-init : goal.product-loop-at-init
+product-loop-at-init t c = search (kept_first, rules)
+
+pub product-returns-then-not-more-clause-sound : goal.product-returns-then-not-more-clause-sound
+product-returns-then-not-more-clause-sound t c = search (read_all, rules)
+
+pub product-returns-then-not-more-clause-reads : goal.product-returns-then-not-more-clause-reads
+product-returns-then-not-more-clause-reads t c = search (read_all, rules)
+
+pub product-factor-next-requires : goal.product-factor-next-requires
+product-factor-next-requires t c = (search (product_calls, rules), search (factor_readable, factor_full, factor_starts, rules))
+
+pub product-append-length-requires-clause-sound_2 : goal.product-append-length-requires-clause-sound_2
+product-append-length-requires-clause-sound_2 t c = c.loop-at.invariant.sound
+
+pub product-overflow_add-at : goal.product-overflow_add-at
+product-overflow_add-at t c = search (size_fits, factor_inside, rules)
+
+pub product-loop-at-smaller : goal.product-loop-at-smaller
+product-loop-at-smaller t c = search (factor_less, rules)
+
+pub product-loop-at-preserved : goal.product-loop-at-preserved
+product-loop-at-preserved t c = search (kept_again, rules)
+
+pub product-returns-clause-sound : goal.product-returns-clause-sound
+product-returns-clause-sound t c = search (read_end, rules)
+
+pub product-returns-clause-reads : goal.product-returns-clause-reads
+product-returns-clause-reads t c = search (read_end, rules)

@@ -1,0 +1,8 @@
+-- `text::writing_of` meets its contract.
+use Rattle.text.proofs.writing_of.Goals as goal
+
+pub returns-in-Fine : goal.returns-in-Fine
+returns-in-Fine c = cc
+
+pub returns-in-Failed : goal.returns-in-Failed
+returns-in-Failed c = cc
