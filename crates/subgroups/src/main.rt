@@ -8,32 +8,30 @@ use crate::reading::read_input;
 use input::LONGEST;
 use output::print;
 use printing::answers::{OUTPUT, Printed};
+use std::io;
+use std::io::Write;
 
-fn main() {
+fn main(rt: HostRuntime) -> io::Result<()> {
     let mut kept = [0u8; LONGEST];
-    let found = read_input(&mut kept);
+    let found = read_input(&mut rt.stdin(), &mut kept);
     if found.failed {
-        io::write_all(2, b"subgroups: standard input cannot be read\n");
-        return;
+        return rt.eprintln("subgroups: standard input cannot be read");
     }
     let mut out = [0u8; OUTPUT];
     let size = found.size;
     let printed = print(&kept, size, &mut out);
     match printed {
-        Printed::Whole(n) => write_output(&out[0..n]),
-        Printed::Short(_) => never(),
-        Printed::Missing => never(),
+        Printed::Whole(n) => write_output(&rt, &out[0..n]),
+        Printed::Short(_) => unreachable!(),
+        Printed::Missing => unreachable!(),
     }
 }
 
 // Writes the output to standard output, or tells on standard error that it cannot be written.
-fn write_output(bytes: &[u8]) {
-    if !io::write_all(1, bytes) {
-        io::write_all(2, b"subgroups: standard output cannot be written\n");
+fn write_output(rt: &(impl Print + Eprint), bytes: &[u8]) -> io::Result<()> {
+    let written = io::writer(rt).write_all(bytes);
+    if written.is_err() {
+        return rt.eprintln("subgroups: standard output cannot be written");
     }
+    Ok(())
 }
-
-// A case that cannot be: whoever calls this has proved so.
-fn never()
-    requires { ⊥ }
-{}
