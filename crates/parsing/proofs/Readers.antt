@@ -2,7 +2,7 @@
 use Prim.Native.Nat.{◌*◌, ◌+◌, ◌-◌, ◌<◌, ◌^◌, ◌≤◌, suc, zero, ℕ}
 use mathlib.Core.Path.{◌∙◌, ◌≡◌, ap, refl, sym}
 use mathlib.Core.Bool.{Bool, false, not, true}
-use mathlib.Core.Option.{Option, none, some}
+use mathlib.Core.Option.{Option, some}
 use mathlib.Core.List.{List, [], ◌++◌, ◌∷◌, append_assoc}
 use native.Mathlib.Omega.{arith}
 use lib.ListN.{drop, get_or, length, length-append, length-drop, take}

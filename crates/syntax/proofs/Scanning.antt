@@ -1,5 +1,5 @@
 -- The scan goes through the spelling of every tree, and leaves the open signs as they were.
-use Prim.Native.Nat.{◌+◌, ℕ}
+use Prim.Native.Nat.{ℕ}
 use mathlib.Core.Path.{◌∙◌, ◌≡◌, ap, refl, sym}
 use mathlib.Core.Bool.{Bool, false, true}
 use mathlib.Core.Option.{none, some}

@@ -1,5 +1,5 @@
 -- The writer's text: it spells a tree without groups and brackets, within all limits, and the word of that tree is the word written.
-use Prim.Native.Nat.{◌%◌, ◌*◌, ◌+◌, ◌-◌, ◌/◌, ◌<◌, ◌≤◌, suc, zero, ℕ}
+use Prim.Native.Nat.{◌%◌, ◌*◌, ◌+◌, ◌/◌, ◌<◌, ◌≤◌, suc, zero, ℕ}
 use mathlib.Core.Path.{◌∙◌, ◌≡◌, ap, refl, sym}
 use mathlib.Core.Logic.{◌⊎◌, inl, inr}
 use mathlib.Core.Bool.{Bool, ◌&&◌, cond, false, true}
@@ -18,7 +18,7 @@ use Rattle.systems.proofs.Logic.{and_left, and_right, bool_cases, or_either}
 use Rattle.records.specs.Records.{is_letter}
 use Rattle.records.proofs.RoundTrip.{AllLetters}
 use Rattle.syntax.specs.Trees.{Digits, Power, Product, ProperDigits, ProperPower, Spells, is_digit, letter, nothing, one, plain, raised, spelled, spelled_digits, spelled_minus, spelled_power, two}
-use Rattle.syntax.specs.TreeWords.{measured, measured_after, number_of, powered, times, tree_word}
+use Rattle.syntax.specs.TreeWords.{measured_after, number_of, powered, times, tree_word}
 use Rattle.syntax.specs.Within.{NestsWithin, PowerWithin, PowersWithin}
 use Rattle.syntax.proofs.Limits.{none-nests, none-powers}
 use Rattle.syntax.specs.Meaning.{WithinLimits}

@@ -24,8 +24,7 @@ use Rattle.records.proofs.Chains.{fine_first, fine_next}
 use Rattle.records.proofs.RoundTrip.{AllLetters, record_letters, word-short}
 use Rattle.slots.specs.Refusals.{word_room}
 use Rattle.slots.proofs.Systems.{room_enough, room_fits}
-use Rattle.syntax.specs.TreeWords.{measured, tree_word}
-use Rattle.syntax.specs.Rules.{short}
+use Rattle.syntax.specs.TreeWords.{tree_word}
 use Rattle.syntax.proofs.Parsing.{one-tree}
 use Rattle.syntax.specs.WordTexts.{runs, runs_text, text_of}
 use Rattle.syntax.proofs.Written.{TextFor, runs_of, runs_unique, text_for}

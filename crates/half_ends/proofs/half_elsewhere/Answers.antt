@@ -1,6 +1,4 @@
 -- `half_ends::half_elsewhere` meets its contract. The invariant: no slot passed has such a word.
-use Prim.Native.Nat.{◌-◌}
-use mathlib.Core.Logic.{⊎_elim}
 use borrow.Author.Rules.{rules}
 use Rattle.half_ends.proofs.HalfSearch.{elsewhere_begin, elsewhere_end, elsewhere_met, elsewhere_own, elsewhere_turn}
 use Rattle.half_ends.proofs.half_elsewhere.Goals as goal

@@ -1,6 +1,4 @@
 -- `half_ends::half_end_by` meets its contract. The invariant: no slot passed is changed.
-use Prim.Native.Nat.{◌-◌}
-use mathlib.Core.Logic.{⊎_elim}
 use borrow.Author.Rules.{rules}
 use Rattle.half_ends.proofs.HalfSearch.{kept_begin, kept_own, kept_turn, kept_at_end, kept_at_beginning, kept_end}
 use Rattle.half_ends.proofs.half_end_by.Goals as goal

@@ -1,6 +1,4 @@
 -- `half_ends::shortest_slot` meets its contract. The invariant: the best of the slots passed, or none.
-use Prim.Native.Nat.{◌-◌}
-use mathlib.Core.Logic.{⊎_elim}
 use borrow.Author.Rules.{rules}
 use Rattle.half_ends.proofs.HalfSearch.{best_begin, best_long, best_skip, best_take, best_chosen, best_unchosen}
 use Rattle.half_ends.proofs.shortest_slot.Goals as goal

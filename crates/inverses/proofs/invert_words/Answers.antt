@@ -1,5 +1,4 @@
 -- `inverses::invert_words` meets its contract. The invariant: the inverses of the slots passed are held.
-use Prim.Native.Nat.{◌-◌}
 use borrow.Author.Rules.{rules}
 use Rattle.inverses.proofs.Inverting.{inverted_all, inverted-next, inverted-none}
 use Rattle.inverses.proofs.invert_words.Goals as goal

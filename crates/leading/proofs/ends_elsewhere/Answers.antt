@@ -1,5 +1,4 @@
 -- `leading::ends_elsewhere` meets its contract. The invariant: no other factor of a slot passed ends with the second half.
-use Prim.Native.Nat.{◌-◌}
 use borrow.Author.Rules.{rules}
 use Rattle.leading.proofs.Leading.{elsewhere_begin, elsewhere_even, elsewhere_turn, elsewhere_met, elsewhere_end}
 use Rattle.leading.proofs.ends_elsewhere.Goals as goal

@@ -1,5 +1,4 @@
 -- `leading::find_lead` meets its contract. The invariant: no factor of a slot passed leads the word.
-use Prim.Native.Nat.{◌-◌}
 use borrow.Author.Rules.{rules}
 use Rattle.leading.proofs.Leading.{leads_begin, leads-plain, leads-inverted, leads_turn, leads_end}
 use Rattle.leading.proofs.find_lead.Goals as goal

@@ -1,5 +1,4 @@
 -- `multiply::multiply_out` meets its contract. The list holds what the letters read so far come to, at most 63 letters for each.
-use Prim.Native.Nat.{◌-◌}
 use borrow.Author.Rules.{rules}
 use Rattle.multiply.proofs.Multiplying.{read_all, read_begin, read_freely_reduced, read_more}
 use Rattle.multiply.proofs.SlotLetters.{slot_inside}

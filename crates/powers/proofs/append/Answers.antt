@@ -2,9 +2,6 @@
 use borrow.Author.Rules.{rules}
 use Rattle.words.proofs.Buffers.{front_short}
 use Rattle.powers.proofs.Bounded.{both_long, both_short, both_sound, fits_some, long_sound, row_freely_reduced, row_long_sound, too_long_none, word-freely_reduced}
-use Rattle.powers.proofs.append.Reads as reads
-use Rattle.powers.proofs.append.Lts as lts
-use Rattle.words.proofs.product.push_signed.Reads as push-signed-reads
 use Rattle.powers.proofs.append.Goals as goal
 
 pub returns-then-used-gt63-clause-sound : goal.returns-then-used-gt63-clause-sound

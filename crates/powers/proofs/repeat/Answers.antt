@@ -1,5 +1,4 @@
 -- `powers::repeat` meets its contract. The row holds as many copies as the loop has made turns, freely reduced, of at most 63 letters each.
-use Prim.Native.Nat.{◌-◌}
 use borrow.Author.Rules.{rules}
 use Rattle.words.proofs.Joining.{pushed_freely_reduced}
 use Rattle.powers.proofs.Bounded.{repeat_all, repeat_more}

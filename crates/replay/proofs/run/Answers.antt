@@ -1,5 +1,4 @@
 -- `replay::run` meets its contract. The invariant: no turn so far is refused, and the words held now are those after them.
-use Prim.Native.Nat.{◌-◌}
 use borrow.Author.Rules.{rules}
 use Rattle.records.proofs.Chains.{each_end}
 use Rattle.moves.proofs.Logging.{passed_move}

@@ -1,5 +1,4 @@
 -- `writing::run_length` meets its contract. The letters read so far are the first one.
-use Prim.Native.Nat.{◌-◌}
 use borrow.Author.Rules.{rules}
 use Rattle.writing.proofs.Runs.{run-first, run_more, run_ends, run_is_all}
 use Rattle.writing.proofs.run_length.Goals as goal

@@ -1,5 +1,4 @@
 -- `writing::write_word` meets its contract. The text of the letters read so far stands at the beginning of the buffer, at most two bytes for each.
-use Prim.Native.Nat.{◌-◌}
 use borrow.Author.Rules.{rules}
 use Rattle.words.proofs.Buffers.{rest_part}
 use Rattle.writing.proofs.Runs.{text_all, text_begin, text_end, text_more}

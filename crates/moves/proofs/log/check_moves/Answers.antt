@@ -1,5 +1,4 @@
 -- `moves::log::check_moves` meets its contract.
-use Prim.Native.Nat.{◌-◌}
 use borrow.Author.Rules.{rules}
 use Rattle.records.proofs.Chains.{each_end, each_fail, each_pass, must_told}
 use Rattle.moves.proofs.log.check_moves.Goals as goal

@@ -1,5 +1,4 @@
 -- `multiply::letters::check_slots` meets its contract. The letters from the present one on decide.
-use Prim.Native.Nat.{◌-◌}
 use borrow.Author.Rules.{rules}
 use Rattle.multiply.proofs.SlotLetters.{slots_begin, slots_end, slots_fail, slots_pass}
 use Rattle.multiply.proofs.letters.check_slots.Goals as goal

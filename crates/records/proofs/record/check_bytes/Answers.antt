@@ -1,5 +1,4 @@
 -- `records::record::check_bytes` meets its contract.
-use Prim.Native.Nat.{◌-◌}
 use borrow.Author.Rules.{rules}
 use Rattle.records.proofs.Chains.{must_told}
 use Rattle.records.proofs.Rules.{bytes_begin, bytes_end, bytes_fail, bytes_pass}

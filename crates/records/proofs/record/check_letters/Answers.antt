@@ -1,5 +1,4 @@
 -- `records::record::check_letters` meets its contract.
-use Prim.Native.Nat.{◌-◌}
 use borrow.Author.Rules.{rules}
 use Rattle.records.proofs.Rules.{letters_begin, letters_end, letters_more, letters_stop}
 use Rattle.records.proofs.record.check_letters.Goals as goal

@@ -1,5 +1,4 @@
 -- `records::record::check_stops` meets its contract.
-use Prim.Native.Nat.{◌-◌}
 use borrow.Author.Rules.{rules}
 use Rattle.records.proofs.Rules.{rest_filled, rest-first, rest-refused, stops_begin, stops_end, stops-more, stops-rest}
 use Rattle.records.proofs.record.check_stops.Goals as goal

@@ -1,5 +1,4 @@
 -- `records::record::fill_stops` meets its contract.
-use Prim.Native.Nat.{◌-◌}
 use borrow.Author.Rules.{rules}
 use Rattle.records.proofs.Filling.{blank_more, blank_all}
 use Rattle.words.proofs.Buffers.{same_after}

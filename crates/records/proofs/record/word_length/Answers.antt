@@ -1,5 +1,4 @@
 -- `records::record::word_length` meets its contract.
-use Prim.Native.Nat.{◌-◌}
 use borrow.Author.Rules.{rules}
 use Rattle.records.proofs.Rules.{word_stop, word-letter, word_full}
 use Rattle.records.proofs.record.word_length.Goals as goal

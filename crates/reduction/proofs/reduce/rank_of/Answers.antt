@@ -1,5 +1,4 @@
 -- `reduction::reduce::rank_of` meets its contract.
-use Prim.Native.Nat.{◌-◌}
 use borrow.Author.Rules.{rules}
 use Rattle.reduction.proofs.Calls.{rank_all, rank_step}
 use Rattle.reduction.proofs.reduce.rank_of.Goals as goal

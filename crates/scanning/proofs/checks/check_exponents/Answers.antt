@@ -1,5 +1,4 @@
 -- `scanning::checks::check_exponents` meets its contract.
-use Prim.Native.Nat.{◌-◌}
 use borrow.Author.Rules.{rules}
 use Rattle.scanning.proofs.Exponents.{exponents_end, exponents_fail, exponents_pass}
 use Rattle.scanning.proofs.checks.check_exponents.Goals as goal

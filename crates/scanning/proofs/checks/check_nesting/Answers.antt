@@ -1,5 +1,4 @@
 -- `scanning::checks::check_nesting` meets its contract.
-use Prim.Native.Nat.{◌-◌}
 use borrow.Author.Rules.{rules}
 use Rattle.scanning.proofs.Nesting.{nesting_end, nesting_fail, nesting_pass, room_grows, room_left}
 use Rattle.scanning.proofs.checks.check_nesting.Goals as goal

@@ -1,5 +1,4 @@
 -- `scanning::shape::check_shape` meets its contract.
-use Prim.Native.Nat.{◌-◌}
 use borrow.Author.Rules.{rules}
 use Rattle.syntax.specs.Scan.{shape_rule}
 use Rattle.scanning.proofs.Signs.{shape_end, shape_fail, shape_pass}

@@ -1,5 +1,4 @@
 -- `slots::checks::check_records` meets its contract.
-use Prim.Native.Nat.{◌-◌}
 use borrow.Author.Rules.{rules}
 use Rattle.records.proofs.Chains.{each_end, each_fail, each_pass}
 use Rattle.slots.proofs.Systems.{record_told}

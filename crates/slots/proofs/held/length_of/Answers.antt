@@ -1,5 +1,4 @@
 -- `slots::held::length_of` meets its contract.
-use mathlib.Core.Path.{refl}
 use Rattle.slots.proofs.held.length_of.Goals as goal
 
 pub returns-clause-upper_bound : goal.returns-clause-upper_bound

@@ -1,5 +1,4 @@
 -- `slots::held::load` meets its contract.
-use Prim.Native.Nat.{◌-◌}
 use borrow.Author.Rules.{rules}
 use Rattle.slots.proofs.Holding.{mid_length, short_put}
 use Rattle.slots.proofs.Systems.{load_all, load_held, load_more}

@@ -1,5 +1,4 @@
 -- `slots::held::load_word` meets its contract.
-use Prim.Native.Nat.{◌-◌}
 use borrow.Author.Rules.{rules}
 use Rattle.records.proofs.Rules.{word_stop, word-letter}
 use Rattle.slots.proofs.Systems.{word_read, word_read_more, word_read_all}

@@ -1,5 +1,4 @@
 -- `slots::held::store` meets its contract.
-use Prim.Native.Nat.{◌-◌}
 use borrow.Author.Rules.{rules}
 use Rattle.slots.proofs.Holding.{mid_length}
 use Rattle.slots.proofs.Systems.{store_more, store_all}

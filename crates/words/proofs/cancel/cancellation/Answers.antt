@@ -1,5 +1,4 @@
 -- `words::cancel::cancellation` meets its contract.
-use Prim.Native.Nat.{◌-◌}
 use borrow.Author.Rules.{rules}
 use Rattle.words.proofs.Counting.{cancel_more, cancel_stop, cancel_end}
 use Rattle.words.proofs.cancel.cancellation.Goals as goal

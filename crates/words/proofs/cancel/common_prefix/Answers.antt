@@ -1,5 +1,4 @@
 -- `words::cancel::common_prefix` meets its contract.
-use Prim.Native.Nat.{◌-◌}
 use borrow.Author.Rules.{rules}
 use Rattle.words.proofs.Counting.{prefix_more, prefix_stop, prefix_end}
 use Rattle.words.proofs.cancel.common_prefix.Goals as goal

@@ -1,5 +1,4 @@
 -- `words::cancel::common_suffix` meets its contract.
-use Prim.Native.Nat.{◌-◌}
 use borrow.Author.Rules.{rules}
 use Rattle.words.proofs.Counting.{suffix_end, suffix_more, suffix_stop}
 use Rattle.words.proofs.cancel.common_suffix.Goals as goal

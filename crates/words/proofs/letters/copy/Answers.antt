@@ -1,5 +1,4 @@
 -- `words::letters::copy` meets its contract.
-use Prim.Native.Nat.{◌-◌}
 use borrow.Author.Rules.{rules}
 use Rattle.words.proofs.Buffers.{copy_more, copy_all, same_after}
 use Rattle.words.proofs.letters.copy.Goals as goal
