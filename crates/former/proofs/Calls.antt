@@ -27,7 +27,8 @@ use Rattle.reduction.specs.declared.answers.Tested.{Tested}
 use Rattle.factoring.specs.TargetProduct.{is_found, product_after}
 use Rattle.asking.specs.Asking.{ask_answer, ask_found, ask_product, asked_of, question_rules, ready_rules, verdict_of}
 use Rattle.membership.specs.Membership.{member_answer, member_found, member_log, member_product, member_tests, member_words}
-use Rattle.former.proofs.Order.{SameUnless, former_system_rules, same_by, system-same_unless}
+use Rattle.former.proofs.Order.{SameUnless, former_system_rules, same_by}
+use Rattle.former.proofs.Lengths.{system-same_unless}
 
 -- `given` is what a call gives on a system, and `call` the same as a function of what the tests of the system find
 pub record CallSameUnless {A : Type 0} (s : List ℕ) (call : Checked → A) (given refused : A) : Type 0 where

@@ -1,4 +1,5 @@
 pub mod Order
+pub mod Lengths
 pub mod Calls
 pub mod Program
 pub mod Independence

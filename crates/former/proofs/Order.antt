@@ -1,21 +1,15 @@
 -- The former order of refusals 1 and 2: whether a length is a multiple of 64 was tested before whether it is too long. It stands here for the
 -- laws of this crate alone, which say where the order matters.
-use Prim.Native.Nat.{◌%◌, ◌<◌, ◌≤◌, ℕ}
-use mathlib.Core.Bool.{Bool, false, not, true}
+use Prim.Native.Nat.{◌%◌, ◌<◌, ℕ}
+use mathlib.Core.Bool.{not}
 use mathlib.Core.List.{List}
-use mathlib.Core.Logic.{inl, inr}
-use mathlib.Core.Path.{◌∙◌, ◌≡◌, ap, refl, sym}
-use native.Mathlib.Omega.{arith}
+use mathlib.Core.Path.{◌≡◌, ap}
 use lib.Dec.{eqb, leb}
 use lib.ListN.{length}
-use borrow.Author.Tests.{eqb-false, eqb-true, le-leb, leb-false, leb-true, lt-leb, ne_eqb}
-use Rattle.systems.proofs.Logic.{bool_cases}
-use Rattle.records.specs.Refusals.{◌and_then◌, each_below, must, refusal}
+use Rattle.records.specs.Refusals.{◌and_then◌, each_below, must}
 use Rattle.records.specs.declared.answers.Checked.{Checked}
-use Rattle.records.specs.declared.answers.Checked.TheVariants.{Failed, Fine}
-use Rattle.slots.specs.Refusals.{slot_rules, system_rules}
+use Rattle.slots.specs.Refusals.{slot_rules}
 use Rattle.slots.specs.Systems.{slots}
-use Rattle.output.specs.Output.{input_rules}
 
 -- the tests of a system: a multiple of 64, then at most 16 records, then the records
 abbrev pub former_system_rules : List ℕ → Checked
@@ -38,56 +32,3 @@ pub record SameUnless {A : Type 0} (most n : ℕ) (given former refused : A) : T
 pub same_by : {A B : Type 0} (f : A → B) (most n : ℕ) {given former refused : A} → SameUnless most n given former refused
     → SameUnless most n (f given) (f former) (f refused)
 same_by f most n m = record { elsewhere = λ h. ap f (m.elsewhere h); there = λ h. ap f (m.there h) }
-
--- a chain of tests with nothing after it, and with its tests grouped otherwise
-then_nothing : (c : Checked) → c ≡ c and_then Fine
-then_nothing Fine = refl
-then_nothing (Failed f) = refl
-
-then_grouped : (c d e : Checked) → c and_then d and_then e ≡ (c and_then d) and_then e
-then_grouped Fine d e = refl
-then_grouped (Failed f) d e = refl
-
--- the two tests of a length, in either order; `few` says whether the former test of refusal 2 passes
-length-same_unless : (most n : ℕ) (few : Bool) → (n ≤ most → few ≡ true) → (most < n → n % 64 ≡ 0 → few ≡ false)
-    → SameUnless most n (must (leb n most) 2 0 and_then must (eqb (n % 64) 0) 1 0) (must (eqb (n % 64) 0) 1 0 and_then must few 2 0) (refusal 2 0)
-length-same_unless most n few short long =
-    record {
-      elsewhere = λ h.
-          elim (bool_cases (leb n most)) [
-            | inl fits ↦ rw (fits, short (leb-true n most fits)) (then_nothing _)
-            | inr over ↦
-                let more : most < n = leb-false n most over in
-                elim (bool_cases (eqb (n % 64) 0)) [
-                  | inl even ↦ rw (over, even, long more (eqb-true _ _ even)) refl
-                  | inr uneven ↦ absurd (h (more, eqb-false _ _ uneven))
-                ]
-          ];
-      there = λ h. rw (lt-leb n most h.0) refl;
-    }
-
--- the two orders find the same in every system but one longer than 1,024 bytes and uneven, and there 2 is found now
-pub system-same_unless : (s : List ℕ) → SameUnless 1024 (length s) (system_rules s) (former_system_rules s) (refusal 2 0)
-unfolding system_rules
-system-same_unless s =
-    let short : Checked = must (leb (length s) 1024) 2 0 in
-    let even : Checked = must (eqb (length s % 64) 0) 1 0 in
-    let few : Checked = must (leb (slots s) 16) 2 0 in
-    let records : Checked = each_below (slot_rules s) (slots s) in
-    let tests : SameUnless 1024 (length s) (short and_then even) (even and_then few) (refusal 2 0) =
-    length-same_unless 1024 (length s) (leb (slots s) 16) (λ h. le-leb (slots s) 16 (omega arith)) (λ h e. lt-leb (slots s) 16 (omega arith)) in
-    record {
-      elsewhere = λ h.
-          then_grouped short even records ∙ ap (λ (c : Checked). c and_then records) (tests.elsewhere h) ∙ sym (then_grouped even few records);
-      there = λ h. then_grouped short even records ∙ ap (λ (c : Checked). c and_then records) (tests.there h);
-    }
-
--- and in the length of every input but one over 1,088 bytes and uneven
-pub input-same_unless : (n : ℕ) → SameUnless 1088 n (input_rules n) (former_input_rules n) (refusal 2 0)
-unfolding input_rules
-input-same_unless n =
-    let tests = length-same_unless 1088 n (leb n 1088) (λ h. le-leb n 1088 h) (λ h e. lt-leb n 1088 h) in
-    record {
-      elsewhere = λ h. ap (λ (c : Checked). must (not (eqb n 0)) 6 0 and_then c) (tests.elsewhere h);
-      there = λ h. rw (ne_eqb n 0 (omega (arith, h.0))) (tests.there h);
-    }

@@ -14,7 +14,8 @@ use Rattle.lines.specs.Lines.{answer_lines, lines_after, refusal_in, refusal_lin
 use Rattle.output.specs.Output.{answer_output, given_system, given_target, input_rules, program_log, program_output, program_product, program_words}
 use Rattle.output.proofs.Calling.{size-most}
 use Rattle.former.proofs.Calls.{member-same_unless, member_with}
-use Rattle.former.proofs.Order.{SameUnless, former_input_rules, former_system_rules, input-same_unless}
+use Rattle.former.proofs.Order.{SameUnless, former_input_rules, former_system_rules}
+use Rattle.former.proofs.Lengths.{input-same_unless}
 
 -- the lines of what member gives, for an input
 abbrev pub lines_of : List ℕ → Reduction × List ℕ × List ℕ × List ℕ → List ℕ
