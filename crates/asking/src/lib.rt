@@ -85,7 +85,7 @@ pub fn ask_held(
     lengths: &[usize],
     product: &mut [u8],
 ) -> Verdict
-    requires target_len { (length target.now ≡ 64) × (64 ≤ length product.old) }
+    requires sizes { (length target.now ≡ 64) × (64 ≤ length product.old) }
     requires held { Held n letters.now lengths.now }
     ensures verdict { result ≡ verdict_of (is_found (product_for (held n letters.now lengths.now) (target_word target.now))) }
     ensures product { product.new ≡ product_after (product_for (held n letters.now lengths.now) (target_word target.now)) product.old }

@@ -35,7 +35,7 @@ pub fn factor_target(
     lengths: &[usize],
     product: &mut [u8],
 ) -> bool
-    requires target_len { (length target.now ≡ 64) × (64 ≤ length product.old) }
+    requires sizes { (length target.now ≡ 64) × (64 ≤ length product.old) }
     requires held { Held n letters.now lengths.now }
     ensures found { result ≡ is_found (product_for (held n letters.now lengths.now) (target_word target.now)) }
     ensures product { product.new ≡ product_after (product_for (held n letters.now lengths.now) (target_word target.now)) product.old }
@@ -61,9 +61,9 @@ fn factor(
     lengths: &[usize],
     list: &mut [u8],
 ) -> Factored
-    requires start_bound { (start ≤ 63) × (length word.old ≡ 64) × (length list.old ≡ 64) }
+    requires sizes { (start ≤ 63) × (length word.old ≡ 64) × (length list.old ≡ 64) }
     requires held { Held n letters.now lengths.now }
-    requires word_value { freely_reduce bytes (take start word.old) ≡ take start word.old }
+    requires freely { freely_reduce bytes (take start word.old) ≡ take start word.old }
     ensures count { result.count ≤ 63 }
     ensures letters { letters_in result.whole result.count list.new ≡ product_letters 63 (held n letters.now lengths.now) (take start word.old) }
 {
@@ -105,10 +105,10 @@ fn take_off(
     lengths: &[usize],
     x: Factor,
 ) -> usize
-    requires slot_lt_n { (x.slot < n) × (size ≤ 63) × (length word.old ≡ 64) }
+    requires inside { (x.slot < n) × (size ≤ 63) × (length word.old ≡ 64) }
     requires held { Held n letters.now lengths.now }
-    requires word_value { freely_reduce bytes (take size word.old) ≡ take size word.old }
-    requires word_value_2 { leading bytes (held n letters.now lengths.now) (take size word.old) ≡ some (as_factor x) }
+    requires freely { freely_reduce bytes (take size word.old) ≡ take size word.old }
+    requires leads { leading bytes (held n letters.now lengths.now) (take size word.old) ≡ some (as_factor x) }
     ensures size { result ≤ 63 }
     ensures word { take result word.new ≡ freely_reduce bytes (inverse bytes (value bytes (held n letters.now lengths.now) (as_factor x)) ++ take size word.old) }
 {
@@ -121,9 +121,9 @@ fn take_off(
 
 // Takes a slot's word, or its inverse, off the beginning of a word: the freely reduced rest goes into a buffer, and its length is answered.
 fn divide(inverted: bool, divisor: &[u8], word: &[u8], out: &mut [u8]) -> usize
-    requires divisor_len_bound { (length divisor.now ≤ 63) × (length word.now ≤ 63) × (128 ≤ length out.old) }
-    requires divisor_value { freely_reduce bytes divisor.now ≡ divisor.now }
-    requires word_value { freely_reduce bytes word.now ≡ word.now }
+    requires sizes { (length divisor.now ≤ 63) × (length word.now ≤ 63) × (128 ≤ length out.old) }
+    requires divisor_freely { freely_reduce bytes divisor.now ≡ divisor.now }
+    requires word_freely { freely_reduce bytes word.now ≡ word.now }
     ensures within { result ≤ length out.new }
     ensures word { take result out.new ≡ freely_reduce bytes (inverse bytes (signed bytes inverted divisor.now) ++ word.now) }
 {

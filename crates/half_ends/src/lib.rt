@@ -27,10 +27,10 @@ fn begins_alike(
     i: usize,
     lengths: &[usize],
 ) -> bool
-    requires le_half { (1 ≤ half) × (half < 64) }
-    requires h_bound { (h < 16) × (i < 16) }
-    requires first_len { (length first.now ≡ 1024) × (length second.now ≡ 1024) }
-    requires lengths_len { length lengths.now ≡ 16 }
+    requires half_inside { (1 ≤ half) × (half < 64) }
+    requires slots_inside { (h < 16) × (i < 16) }
+    requires wide { (length first.now ≡ 1024) × (length second.now ≡ 1024) }
+    requires counted { length lengths.now ≡ 16 }
     requires short { Short lengths.now }
     ensures { result ≡ leb half (common_prefix bytes (held_word first.now lengths.now h) (held_word second.now lengths.now i)) }
 {
@@ -54,10 +54,10 @@ fn meets_half(
     h: usize,
     i: usize,
 ) -> bool
-    requires h_lt_n { (h < n) × (i < n) }
+    requires inside { (h < n) × (i < n) }
     requires held { Held n letters.now lengths.now }
     requires inverted { Inverted n letters.now inverses.now lengths.now }
-    requires bound { 2 ≤ get_or lengths.now h 0 }
+    requires has_halves { 2 ≤ get_or lengths.now h 0 }
     ensures { result ≡ meets_half inverted (held_word letters.now lengths.now h) (held_word letters.now lengths.now i) }
 {
     let half = length_of(lengths, h) / 2;
@@ -78,10 +78,10 @@ fn half_elsewhere(
     n: usize,
     h: usize,
 ) -> bool
-    requires h_lt_n { h < n }
+    requires inside { h < n }
     requires held { Held n letters.now lengths.now }
     requires inverted { Inverted n letters.now inverses.now lengths.now }
-    requires bound { 2 ≤ get_or lengths.now h 0 }
+    requires has_halves { 2 ≤ get_or lengths.now h 0 }
     ensures { result ≡ half_elsewhere inverted n (held n letters.now lengths.now) h }
 {
     let mut i = 0;
@@ -99,7 +99,7 @@ fn half_elsewhere(
 
 // Whether the word of slot h qualifies for a half-end move.
 fn does_qualify(letters: &[u8], inverses: &[u8], lengths: &[usize], n: usize, h: usize) -> bool
-    requires h_lt_n { h < n }
+    requires inside { h < n }
     requires held { Held n letters.now lengths.now }
     requires inverted { Inverted n letters.now inverses.now lengths.now }
     ensures { result ≡ qualifies bytes (held n letters.now lengths.now) h }
@@ -145,10 +145,10 @@ fn shortest_slot(letters: &[u8], inverses: &[u8], lengths: &[usize], n: usize) -
 // The half-end move by slot h: the first other slot whose word ends with the second half of h's word (form 4), or else begins with its
 // inverse (form 1).
 fn half_end_by(letters: &[u8], inverses: &[u8], lengths: &[usize], n: usize, h: usize) -> Found
-    requires h_lt_n { h < n }
+    requires inside { h < n }
     requires held { Held n letters.now lengths.now }
     requires inverted { Inverted n letters.now inverses.now lengths.now }
-    requires n_value { shortest_below bytes (held n letters.now lengths.now) n ≡ some h }
+    requires shortest { shortest_below bytes (held n letters.now lengths.now) n ≡ some h }
     ensures found { found_move result ≡ half_end bytes (held n letters.now lengths.now) }
     ensures below { FoundBelow n result }
 {

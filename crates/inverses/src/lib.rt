@@ -14,7 +14,7 @@ use words::product::append_inverse;
 // Forms the inverses of the words of all n slots.
 pub fn invert_words(letters: &[u8], lengths: &[usize], n: usize, inverses: &mut [u8])
     requires held { Held n letters.now lengths.now }
-    requires inverses_len { length inverses.old ≡ 1024 }
+    requires wide { length inverses.old ≡ 1024 }
     ensures { Inverted n letters.now inverses.new lengths.now }
 {
     let mut k = 0;
@@ -27,9 +27,9 @@ pub fn invert_words(letters: &[u8], lengths: &[usize], n: usize, inverses: &mut 
 // Forms the inverse of one slot's word. The 64 bytes that end with the word are turned round, so that the loop has one length; in the first
 // slot, those of the word alone. What comes after the inverse in its slot is no part of it.
 pub fn invert_word(letters: &[u8], lengths: &[usize], n: usize, k: usize, inverses: &mut [u8])
-    requires k_lt_n { k < n }
+    requires inside { k < n }
     requires held { Held n letters.now lengths.now }
-    requires inverses_len { length inverses.old ≡ 1024 }
+    requires wide { length inverses.old ≡ 1024 }
     ensures formed { held_word inverses.new lengths.now k ≡ inverse bytes (held_word letters.now lengths.now k) }
     ensures others { (j : ℕ) → (j ≡ k → ⊥) → held_word inverses.new lengths.now j ≡ held_word inverses.old lengths.now j }
 {

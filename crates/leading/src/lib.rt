@@ -75,7 +75,7 @@ fn does_lead(
     lengths: &[usize],
     k: usize,
 ) -> bool
-    requires k_lt_n { k < n }
+    requires inside { k < n }
     requires held { Held n letters.now lengths.now }
     ensures { result ≡ leads half (held n letters.now lengths.now) word.now (record { slot = k; inverted = inverted }) }
 {
@@ -99,9 +99,9 @@ fn does_lead(
 
 // Whether another factor ends with the second half of that of slot k, its word or, inverted, the inverse.
 fn ends_elsewhere(inverted: bool, n: usize, letters: &[u8], lengths: &[usize], k: usize) -> bool
-    requires k_lt_n { k < n }
+    requires inside { k < n }
     requires held { Held n letters.now lengths.now }
-    requires k_len { length (held_word letters.now lengths.now k) % 2 ≡ 0 }
+    requires even { length (held_word letters.now lengths.now k) % 2 ≡ 0 }
     ensures { result ≡ ends_elsewhere n (held n letters.now lengths.now) k inverted }
 {
     let whole = word_at(letters, lengths, k);

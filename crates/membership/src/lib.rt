@@ -94,7 +94,7 @@ fn conclude(
     words: &mut [u8],
     product: &mut [u8],
 ) -> Verdict
-    requires target_len { (length target.now ≡ 64) × (n * 64 ≤ length words.old) × (64 ≤ length product.old) }
+    requires sizes { (length target.now ≡ 64) × (n * 64 ≤ length words.old) × (64 ≤ length product.old) }
     requires held { Held n letters.now lengths.now }
     ensures verdict { result ≡ verdict_of (is_found (product_for (held n letters.now lengths.now) (target_word target.now))) }
     ensures words { words.new ≡ written (bytes_of (held n letters.now lengths.now)) words.old }

@@ -89,8 +89,8 @@ fn check_moves(n: usize, log: &[u8], m: usize) -> Checked
 
 // Reads the move in a log record that is one over n slots.
 pub fn read_move(n: usize, log: &[u8], j: usize) -> Move
-    requires move_size_in_bounds { j * move_size + move_size ≤ length log.now }
-    requires j_value { is_move n log.now j ≡ true }
+    requires inside { j * move_size + move_size ≤ length log.now }
+    requires valid { is_move n log.now j ≡ true }
     ensures slots { (result.changed < n) × (result.other < n) × (result.form < 4) }
     ensures apart { result.changed ≡ result.other → ⊥ }
     ensures read { move_of result ≡ move_at log.now j }
@@ -105,8 +105,8 @@ pub fn read_move(n: usize, log: &[u8], j: usize) -> Move
 
 // Writes a move as a log record.
 pub fn write_move(log: &mut [u8], j: usize, m: Move)
-    requires move_size_in_bounds { j * move_size + move_size ≤ length log.old }
-    requires changed_bound { (m.changed < 16) × (m.other < 16) × (m.form < 4) }
+    requires inside { j * move_size + move_size ≤ length log.old }
+    requires slots { (m.changed < 16) × (m.other < 16) × (m.form < 4) }
     ensures { log.new ≡ take (j * move_size) log.old ++ (log_record (move_of m) ++ drop (j * move_size + move_size) log.old) }
 {
     let at = j * MOVE;

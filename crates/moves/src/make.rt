@@ -14,10 +14,10 @@ use words::product::push_signed;
 
 // The freely reduced product of one of the four forms, at the beginning of a buffer, and its length.
 fn form_word(form: usize, other: &[u8], changed: &[u8], out: &mut [u8]) -> usize
-    requires form_bound { form < 4 }
-    requires other_len_bound { (length other.now ≤ 63) × (length changed.now ≤ 63) × (128 ≤ length out.old) }
-    requires other_value { freely_reduce bytes other.now ≡ other.now }
-    requires changed_value { freely_reduce bytes changed.now ≡ changed.now }
+    requires four_forms { form < 4 }
+    requires sizes { (length other.now ≤ 63) × (length changed.now ≤ 63) × (128 ≤ length out.old) }
+    requires other_freely { freely_reduce bytes other.now ≡ other.now }
+    requires changed_freely { freely_reduce bytes changed.now ≡ changed.now }
     ensures within { result ≤ length out.new }
     ensures word { take result out.new ≡ freely_reduce bytes (formed bytes (form_at form) other.now changed.now) }
 {
@@ -32,9 +32,9 @@ fn form_word(form: usize, other: &[u8], changed: &[u8], out: &mut [u8]) -> usize
 
 // The word that a move puts into its slot, at the beginning of a buffer, and its length.
 fn moved_word(letters: &[u8], lengths: &[usize], n: usize, m: Move, out: &mut [u8]) -> usize
-    requires changed_lt_n { (m.changed < n) × (m.other < n) × (m.form < 4) }
+    requires inside { (m.changed < n) × (m.other < n) × (m.form < 4) }
     requires held { Held n letters.now lengths.now }
-    requires in_bounds { 128 ≤ length out.old }
+    requires room { 128 ≤ length out.old }
     ensures size { result ≡ length (moved_word bytes (held n letters.now lengths.now) (move_of m)) }
     ensures word { take result out.new ≡ moved_word bytes (held n letters.now lengths.now) (move_of m) }
 {
@@ -52,9 +52,9 @@ fn put_word(
     buffer: &[u8],
     size: usize,
 )
-    requires k_lt_n { (k < n) × (size ≤ 63) × (64 ≤ length buffer.now) }
-    requires buffer_value { freely_reduce bytes (take size buffer.now) ≡ take size buffer.now }
-    requires held_2 { Held n letters.old lengths.old }
+    requires inside { (k < n) × (size ≤ 63) × (64 ≤ length buffer.now) }
+    requires freely { freely_reduce bytes (take size buffer.now) ≡ take size buffer.now }
+    requires held { Held n letters.old lengths.old }
     ensures words { held n letters.new lengths.new ≡ set (held n letters.old lengths.old) k (take size buffer.now) }
     ensures held { Held n letters.new lengths.new }
 {
@@ -66,8 +66,8 @@ fn put_word(
 
 // Makes a move, and answers whether its word has at most 63 letters; where it has more, nothing is made.
 pub fn make_move(letters: &mut [u8], lengths: &mut [usize], n: usize, m: Move) -> bool
-    requires changed_lt_n { (m.changed < n) × (m.other < n) × (m.form < 4) }
-    requires held_2 { Held n letters.old lengths.old }
+    requires inside { (m.changed < n) × (m.other < n) × (m.form < 4) }
+    requires held { Held n letters.old lengths.old }
     ensures fits { result ≡ leb (length (moved_word bytes (held n letters.old lengths.old) (move_of m))) 63 }
     ensures made { result ≡ true → held n letters.new lengths.new ≡ made bytes (held n letters.old lengths.old) (move_of m) }
     ensures held { Held n letters.new lengths.new }

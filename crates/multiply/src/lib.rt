@@ -66,9 +66,9 @@ fn check_multiply(system: &[u8], product: &[u8], room: usize) -> Checked
 
 // Multiplies a product out over the words of a system, into a list that may grow to 63 times 63 letters, and answers the word's length.
 fn product_word(system: &[u8], product: &[u8], list: &mut [u8]) -> usize
-    requires system_len_bound { (length system.now ≤ 1024) × (length product.now ≡ 64) }
-    requires product_value { slot_rule (slots system.now) product.now ≡ Fine }
-    requires list_len { length list.old ≡ 4096 }
+    requires sizes { (length system.now ≤ 1024) × (length product.now ≡ 64) }
+    requires named { slot_rule (slots system.now) product.now ≡ Fine }
+    requires room { length list.old ≡ 4096 }
     ensures within { result ≤ 4096 }
     ensures word { take result list.new ≡ product_word system.now product.now }
 {
@@ -86,10 +86,10 @@ fn multiply_out(
     lengths: &[usize],
     list: &mut [u8],
 ) -> usize
-    requires product_len { length product.now ≡ 64 }
-    requires product_value { slot_rule n product.now ≡ Fine }
+    requires size { length product.now ≡ 64 }
+    requires named { slot_rule n product.now ≡ Fine }
     requires held { Held n letters.now lengths.now }
-    requires list_len { length list.old ≡ 4096 }
+    requires room { length list.old ≡ 4096 }
     ensures within { result ≤ 4096 }
     ensures word { take result list.new ≡ multiplied bytes (held n letters.now lengths.now) (product_of product.now) }
 {
@@ -112,9 +112,9 @@ fn push_factor(
     list: &mut [u8],
     size: usize,
 ) -> usize
-    requires b_bound { ((factor_of b).slot < n) × (size + 63 ≤ length list.old) }
+    requires inside { ((factor_of b).slot < n) × (size + 63 ≤ length list.old) }
     requires held { Held n letters.now lengths.now }
-    requires list_value { freely_reduce bytes (take size list.old) ≡ take size list.old }
+    requires freely { freely_reduce bytes (take size list.old) ≡ take size list.old }
     ensures longer { result ≤ size + 63 }
     ensures word { take result list.new ≡ freely_reduce bytes (take size list.old ++ value bytes (held n letters.now lengths.now) (factor_of b)) }
 {

@@ -47,7 +47,7 @@ pub fn product(text: &[u8], room: usize) -> Reading
 #[cycle(reader)]
 fn factor(text: &[u8], room: usize) -> Reading
     requires readable { Readable room text.now }
-    requires text_nonzero { (0 < length text.now) × (starts_factor (get_or text.now 0 0) ≡ true) }
+    requires starts { (0 < length text.now) × (starts_factor (get_or text.now 0 0) ≡ true) }
     ensures sound { Sound result.word }
     ensures reads { FactorReads room text.now result }
 {
@@ -69,7 +69,7 @@ fn factor(text: &[u8], room: usize) -> Reading
 #[cycle(reader)]
 fn bracket(text: &[u8], room: usize) -> Reading
     requires readable { Readable room text.now }
-    requires text_value { get_or text.now 0 0 ≡ 91 }
+    requires opens { get_or text.now 0 0 ≡ 91 }
     ensures sound { Sound result.word }
     ensures reads { FactorReads room text.now result }
 {
@@ -98,8 +98,8 @@ fn starts(b: u8) -> bool
 
 // A factor's word with the power that stands at a place of a text, if one does.
 fn powered(word: Word, text: &[u8], at: usize) -> Reading
-    requires sound_2 { Sound word }
-    requires at_in_bounds { (at ≤ length text.now) × ((exponent_of (drop at text.now)).number ≤ 63) }
+    requires sound { Sound word }
+    requires within { (at ≤ length text.now) × ((exponent_of (drop at text.now)).number ≤ 63) }
     ensures sound { Sound result.word }
     ensures reads { PowerReads text.now at word result }
 {

@@ -33,8 +33,8 @@ pub fn single(b: u8) -> Word
 
 // The freely reduced word at the beginning of a row, where it is short enough.
 fn kept(row: &[u8], size: usize) -> Word
-    requires size_in_bounds { size ≤ length row.now }
-    requires row_value { freely_reduce bytes (take size row.now) ≡ take size row.now }
+    requires inside { size ≤ length row.now }
+    requires freely { freely_reduce bytes (take size row.now) ≡ take size row.now }
     ensures sound { Sound result }
     ensures word { word_in result ≡ within (take size row.now) }
 {
@@ -54,8 +54,8 @@ fn kept(row: &[u8], size: usize) -> Word
 
 // Puts a word after the one of so many letters at the beginning of a row, and answers the length of both.
 pub fn append(row: &mut [u8], used: usize, word: Word) -> usize
-    requires sound_2 { Sound (held row.old used) }
-    requires sound_3 { Sound word }
+    requires row_sound { Sound (held row.old used) }
+    requires word_sound { Sound word }
     ensures sound { Sound (held row.new result) }
     ensures word { word_in (held row.new result) ≡ join_of (word_in (held row.old used)) (word_in word) }
 {
@@ -73,8 +73,8 @@ pub fn append(row: &mut [u8], used: usize, word: Word) -> usize
 
 // The inverse of u, the inverse of v, u, v.
 pub fn commute(u: Word, v: Word) -> Word
-    requires sound_2 { Sound u }
-    requires sound_3 { Sound v }
+    requires first_sound { Sound u }
+    requires second_sound { Sound v }
     ensures sound { Sound result }
     ensures word { word_in result ≡ commute_of (word_in u) (word_in v) }
 {
@@ -95,9 +95,9 @@ pub fn commute(u: Word, v: Word) -> Word
 
 // Writes the commutator of two words into a row, freely reduced, and answers its length.
 fn commute_letters(u: &[u8], v: &[u8], row: &mut [u8]) -> usize
-    requires u_len_bound { (length u.now ≤ 63) × (length v.now ≤ 63) × (length row.old ≡ 256) }
-    requires u_value { freely_reduce bytes u.now ≡ u.now }
-    requires v_value { freely_reduce bytes v.now ≡ v.now }
+    requires sizes { (length u.now ≤ 63) × (length v.now ≤ 63) × (length row.old ≡ 256) }
+    requires first_freely { freely_reduce bytes u.now ≡ u.now }
+    requires second_freely { freely_reduce bytes v.now ≡ v.now }
     ensures inside { result ≤ 256 }
     ensures word { take result row.new ≡ freely_reduce bytes (commutator u.now v.now) }
 {
@@ -109,8 +109,8 @@ fn commute_letters(u: &[u8], v: &[u8], row: &mut [u8]) -> usize
 
 // A word, or its inverse under a minus sign, so many times.
 pub fn raise(word: Word, minus: bool, times: usize) -> Word
-    requires sound_2 { Sound word }
-    requires times_bound { times ≤ 63 }
+    requires sound { Sound word }
+    requires few_times { times ≤ 63 }
     ensures sound { Sound result }
     ensures word { word_in result ≡ raise_of minus times (word_in word) }
 {
@@ -126,8 +126,8 @@ pub fn raise(word: Word, minus: bool, times: usize) -> Word
 
 // Writes a word, or its inverse, so many times into a row, freely reduced, and answers the length.
 fn repeat(word: &[u8], minus: bool, times: usize, row: &mut [u8]) -> usize
-    requires word_len_bound { (length word.now ≤ 63) × (times ≤ 63) × (length row.old ≡ 4096) }
-    requires word_value { freely_reduce bytes word.now ≡ word.now }
+    requires sizes { (length word.now ≤ 63) × (times ≤ 63) × (length row.old ≡ 4096) }
+    requires freely { freely_reduce bytes word.now ≡ word.now }
     ensures inside { result ≤ 4096 }
     ensures word { take result row.new ≡ freely_reduce bytes (copies times (signed bytes minus word.now)) }
 {

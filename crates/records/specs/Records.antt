@@ -5,7 +5,7 @@ use Rattle.std.specs.Prelude.{◌-◌, ℕ, Bool, ◌&&◌, ◌||◌, cond, not,
 abbrev pub is_letter : ℕ → Bool
 is_letter b = leb 65 b && leb b 90 || leb 97 b && leb b 122
 
--- a full stop, 0x2_e
+-- a full stop, 0x2E
 abbrev pub is_stop : ℕ → Bool
 is_stop b = eqb b 46
 
@@ -19,7 +19,7 @@ not_letter b = not (is_letter b)
 abbrev pub blanks : ℕ → List ℕ
 blanks n = replicate n 46
 
--- "A record is 64 bytes: the letters, then full stops (0x2_e) up to byte 62, then a line feed (0x0_a) at byte 63."
+-- "A record is 64 bytes: the letters, then full stops (0x2E) up to byte 62, then a line feed (0x0A) at byte 63."
 abbrev pub record_of : List ℕ → List ℕ
 record_of w = w ++ (blanks (63 - length w) ++ (10 ∷ []))
 

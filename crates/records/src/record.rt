@@ -40,8 +40,8 @@ fn is_letter_or_stop(b: u8) -> bool
 
 // Refusals 3 to 5 on a record that starts at a place of its buffer.
 pub fn check_record(bytes: &[u8], at: usize) -> Checked
-    requires bytes_len { length bytes.now ≡ 64 }
-    requires at_bound { at ≤ 4096 }
+    requires size { length bytes.now ≡ 64 }
+    requires place { at ≤ 4096 }
     ensures { result ≡ record_rules bytes.now at }
 {
     let ended = check_that(bytes[63] == LINE_FEED, NO_LINE_FEED, at + 63);
@@ -78,8 +78,8 @@ fn as_target(checked: Checked) -> Checked
 
 // Refusals 4 and 5 on the bytes before the line feed: first the letters.
 fn check_letters(letters: &[u8], at: usize) -> Checked
-    requires letters_len_bound { length letters.now ≤ 64 }
-    requires at_bound { at ≤ 4096 }
+    requires size { length letters.now ≤ 64 }
+    requires place { at ≤ 4096 }
     ensures { result ≡ letters_rule letters.now at }
 {
     let mut i = 0;
@@ -95,8 +95,8 @@ fn check_letters(letters: &[u8], at: usize) -> Checked
 
 // Then the full stops: refusal 5 at the first byte after them, unless 4 goes before it.
 fn check_stops(bytes: &[u8], at: usize) -> Checked
-    requires bytes_len_bound { length bytes.now ≤ 64 }
-    requires at_bound { at ≤ 8192 }
+    requires size { length bytes.now ≤ 64 }
+    requires place { at ≤ 8192 }
     ensures { result ≡ stops_rule bytes.now at }
 {
     let mut i = 0;
@@ -112,9 +112,9 @@ fn check_stops(bytes: &[u8], at: usize) -> Checked
 
 // What comes after the full stops breaks a rule: 4 where a byte is neither a letter nor a full stop, or else 5 at the first.
 fn check_rest(bytes: &[u8], at: usize, ordered: Checked) -> Checked
-    requires bytes_len_bound { (length bytes.now ≤ 64) × (at ≤ 16384) }
-    requires fact { (get_or bytes.now 0 0 ≡ 46 → ⊥) × (0 < length bytes.now) }
-    requires ordered_value { ordered ≡ refusal 5 at }
+    requires size_and_place { (length bytes.now ≤ 64) × (at ≤ 16384) }
+    requires begins_with_no_stop { (get_or bytes.now 0 0 ≡ 46 → ⊥) × (0 < length bytes.now) }
+    requires refusal_5 { ordered ≡ refusal 5 at }
     ensures { result ≡ stops_rule bytes.now at }
 {
     let checked = check_bytes(bytes, at);
@@ -126,8 +126,8 @@ fn check_rest(bytes: &[u8], at: usize, ordered: Checked) -> Checked
 
 // Refusal 4: every byte is a letter or a full stop.
 fn check_bytes(bytes: &[u8], at: usize) -> Checked
-    requires bytes_len_bound { length bytes.now ≤ 64 }
-    requires at_bound { at ≤ 16384 }
+    requires size { length bytes.now ≤ 64 }
+    requires place { at ≤ 16384 }
     ensures { result ≡ byte_rule bytes.now at }
 {
     let mut i = 0;
@@ -159,8 +159,8 @@ pub fn word_length(bytes: &[u8]) -> usize
 
 // Writes a word as its record.
 pub fn write_record(word: &[u8], out: &mut [u8])
-    requires word_len_bound { length word.now ≤ 63 }
-    requires out_len { length out.old ≡ 64 }
+    requires fits { length word.now ≤ 63 }
+    requires room { length out.old ≡ 64 }
     ensures { out.new ≡ record_of word.now }
 {
     fill_stops(out);

@@ -100,8 +100,8 @@ pub fn reduce_held(
     lengths: &mut [usize],
     log: &mut [u8],
 ) -> Summary
-    requires system_len_bound { length system.now ≤ 1024 }
-    requires held_2 { Held 0 letters.old lengths.old }
+    requires size { length system.now ≤ 1024 }
+    requires held { Held 0 letters.old lengths.old }
     ensures moves { result.moves ≡ length (moves_within bytes (room_for log.old) (freely_reduced_words system.now)) }
     ensures rank { result.rank ≡ rank (run_within bytes (room_for log.old) (freely_reduced_words system.now)) }
     ensures independent { result.independent ≡ none_blank (run_within bytes (room_for log.old) (freely_reduced_words system.now)) }

@@ -6,7 +6,7 @@ ghost use Rattle.records.specs.declared.answers.Checked.TheVariants.{Fine};
 ghost use Rattle.slots.specs.Held.{Held, held};
 ghost use Rattle.moves.specs.Found.{move_of};
 ghost use Rattle.moves.specs.Logs.{log_rules, moves_in};
-ghost use Rattle.replay.specs.Replay.{place_at, replay_answer, replay_buffer, replay_tests, replayed, run_rules, directed as Replay·directed};
+ghost use Rattle.replay.specs.Replay.{place_at, replay_answer, replay_buffer, replay_tests, replayed, run_rules, directed as directed_move};
 
 use moves::found::Move;
 use moves::log::{MOVE, check_log, read_move};
@@ -60,8 +60,8 @@ fn check_replay(system: &[u8], log: &[u8], room: usize) -> Checked
 
 // Runs the moves of a log, the first one first, or undoes them, the last one first, with refusal 12.
 fn run(log: &[u8], backward: bool, n: usize, letters: &mut [u8], lengths: &mut [usize]) -> Checked
-    requires log_value { log_rules n log.now ≡ Fine }
-    requires held_2 { Held n letters.old lengths.old }
+    requires valid { log_rules n log.now ≡ Fine }
+    requires held { Held n letters.old lengths.old }
     ensures rules { result ≡ run_rules backward (held n letters.old lengths.old) log.now }
     ensures words { result ≡ Fine → held n letters.new lengths.new ≡ replayed backward (held n letters.old lengths.old) (moves_in log.now) }
     ensures held { Held n letters.new lengths.new }
@@ -83,8 +83,8 @@ fn run(log: &[u8], backward: bool, n: usize, letters: &mut [u8], lengths: &mut [
 // Where the next move stands in the log when some of them are done.
 fn place_at(backward: bool, count: usize, done: usize) -> usize
     requires { done < count }
-    ensures upper_bound { result < count }
-    ensures value { result ≡ place_at backward count done }
+    ensures inside { result < count }
+    ensures place { result ≡ place_at backward count done }
 {
     if backward { count - 1 - done } else { done }
 }
@@ -92,8 +92,8 @@ fn place_at(backward: bool, count: usize, done: usize) -> usize
 // A move, or backward the move that takes it back: forms 1 and 2 undo each other, and so do 3 and 4.
 fn directed(backward: bool, m: Move) -> Move
     requires { m.form < 4 }
-    ensures changed_value { (result.changed ≡ m.changed) × (result.other ≡ m.other) × (result.form < 4) }
-    ensures result_value { move_of result ≡ Replay·directed backward (move_of m) }
+    ensures slots { (result.changed ≡ m.changed) × (result.other ≡ m.other) × (result.form < 4) }
+    ensures directed { move_of result ≡ directed_move backward (move_of m) }
 {
     if !backward {
         return m;

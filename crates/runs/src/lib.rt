@@ -31,11 +31,11 @@ pub fn find_move(
     last: usize,
     marks: &mut [u8],
 ) -> Found
-    requires last_bound { last ≤ n - 1 }
+    requires last_slot { last ≤ n - 1 }
     requires held { Held n letters.now lengths.now }
     requires inverted { Inverted n letters.now inverses.now lengths.now }
-    requires marks_len { length marks.old ≡ 256 }
-    requires marked_2 { Marked n (held n letters.now lengths.now) marks.old }
+    requires table { length marks.old ≡ 256 }
+    requires marked { Marked n (held n letters.now lengths.now) marks.old }
     requires settled { Settled n (held n letters.now lengths.now) last }
     ensures found { FoundNext n (held n letters.now lengths.now) result }
     ensures marked { Marked n (held n letters.now lengths.now) marks.new }
@@ -66,9 +66,9 @@ pub struct Ran {
 
 // Marks all pairs with a slot where it is blank: no form shortens it, and it shortens no other.
 fn pass_blank(letters: &[u8], lengths: &[usize], n: usize, c: usize, marks: &mut [u8])
-    requires c_lt_n { c < n }
+    requires inside { c < n }
     requires held { Held n letters.now lengths.now }
-    requires marks_len { length marks.old ≡ 256 }
+    requires table { length marks.old ≡ 256 }
     requires marked { Marked n (held n letters.now lengths.now) marks.old }
     ensures { Marked n (held n letters.now lengths.now) marks.new }
 {
@@ -88,10 +88,10 @@ fn advance(
     m: Move,
     marks: &mut [u8],
 )
-    requires held_2 { Held n letters.old lengths.old }
-    requires inverted_2 { Inverted n letters.old inverses.old lengths.old }
-    requires marks_len { length marks.old ≡ 256 }
-    requires marked_2 { Marked n (held n letters.old lengths.old) marks.old }
+    requires held { Held n letters.old lengths.old }
+    requires inverted { Inverted n letters.old inverses.old lengths.old }
+    requires table { length marks.old ≡ 256 }
+    requires marked { Marked n (held n letters.old lengths.old) marks.old }
     requires found_next { FoundNext n (held n letters.old lengths.old) (Found.Move m) }
     ensures words { held n letters.new lengths.new ≡ made bytes (held n letters.old lengths.old) (move_of m) }
     ensures held { Held n letters.new lengths.new }
@@ -116,12 +116,12 @@ fn take_move(
     log: &mut [u8],
     used: usize,
 ) -> Found
-    requires held_2 { Held n letters.old lengths.old }
-    requires inverted_2 { Inverted n letters.old inverses.old lengths.old }
-    requires marks_len { length marks.old ≡ 256 }
-    requires marked_2 { Marked n (held n letters.old lengths.old) marks.old }
+    requires held { Held n letters.old lengths.old }
+    requires inverted { Inverted n letters.old inverses.old lengths.old }
+    requires table { length marks.old ≡ 256 }
+    requires marked { Marked n (held n letters.old lengths.old) marks.old }
     requires found_next { FoundNext n (held n letters.old lengths.old) (Found.Move m) }
-    requires move_size_in_bounds { used * move_size + move_size ≤ length log.old }
+    requires room { used * move_size + move_size ≤ length log.old }
     ensures found { FoundNext n (held n letters.new lengths.new) result }
     ensures words { held n letters.new lengths.new ≡ made bytes (held n letters.old lengths.old) (move_of m) }
     ensures held { Held n letters.new lengths.new }
@@ -160,9 +160,9 @@ fn run_from(
     marks: &mut [u8],
     log: &mut [u8],
 ) -> Ran
-    requires held_2 { Held n letters.old lengths.old }
+    requires held { Held n letters.old lengths.old }
     requires inverted { Inverted n letters.old inverses.old lengths.old }
-    requires marks_len { length marks.old ≡ 256 }
+    requires table { length marks.old ≡ 256 }
     requires marked { Marked n (held n letters.old lengths.old) marks.old }
     requires found_next { FoundNext n (held n letters.old lengths.old) first }
     ensures moves { result.moves ≡ length (moves_within bytes (room_for log.old) (held n letters.old lengths.old)) }

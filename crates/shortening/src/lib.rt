@@ -27,11 +27,11 @@ fn seam_of(
     k: usize,
     i: usize,
 ) -> usize
-    requires form_bound { (form < 4) × (k < n) × (i < n) }
+    requires inside { (form < 4) × (k < n) × (i < n) }
     requires held { Held n letters.now lengths.now }
     requires inverted { Inverted n letters.now inverses.now lengths.now }
-    ensures value { result ≡ seam bytes (form_at form) (held_word letters.now lengths.now i) (held_word letters.now lengths.now k) }
-    ensures upper_bound { result ≤ 63 }
+    ensures seam { result ≡ seam bytes (form_at form) (held_word letters.now lengths.now i) (held_word letters.now lengths.now k) }
+    ensures most { result ≤ 63 }
 {
     let other = word_at(letters, lengths, i);
     let changed = word_at(letters, lengths, k);
@@ -51,10 +51,10 @@ fn seam_of(
 
 // Half the length of the shorter word of two slots, rounded down.
 fn shorter_half(lengths: &[usize], k: usize, i: usize) -> usize
-    requires k_in_bounds { (k < length lengths.now) × (i < length lengths.now) }
+    requires inside { (k < length lengths.now) × (i < length lengths.now) }
     requires short { Short lengths.now }
-    ensures value { result ≡ min (get_or lengths.now i 0) (get_or lengths.now k 0) / 2 }
-    ensures upper_bound { result ≤ 31 }
+    ensures half { result ≡ min (get_or lengths.now i 0) (get_or lengths.now k 0) / 2 }
+    ensures most { result ≤ 31 }
 {
     least(length_of(lengths, i), length_of(lengths, k)) / 2
 }
@@ -70,7 +70,7 @@ fn is_close(
     k: usize,
     i: usize,
 ) -> bool
-    requires form_bound { (form < 4) × (k < n) × (i < n) }
+    requires inside { (form < 4) × (k < n) × (i < n) }
     requires held { Held n letters.now lengths.now }
     requires inverted { Inverted n letters.now inverses.now lengths.now }
     ensures { result ≡ false → HalfAtMost form (held_word letters.now lengths.now i) (held_word letters.now lengths.now k) }
@@ -98,11 +98,11 @@ fn first_form(
     k: usize,
     i: usize,
 ) -> usize
-    requires k_lt_n { (k < n) × (i < n) }
+    requires inside { (k < n) × (i < n) }
     requires held { Held n letters.now lengths.now }
     requires inverted { Inverted n letters.now inverses.now lengths.now }
-    ensures upper_bound { result ≤ 4 }
-    ensures by_index { (form : ℕ) → form < result → HalfAtMost form (held_word letters.now lengths.now i) (held_word letters.now lengths.now k) }
+    ensures most { result ≤ 4 }
+    ensures earlier { (form : ℕ) → form < result → HalfAtMost form (held_word letters.now lengths.now i) (held_word letters.now lengths.now k) }
 {
     let shorter = least(length_of(lengths, i), length_of(lengths, k));
     if shorter == 0 {
@@ -140,11 +140,11 @@ pub fn find_shortening(
     last: usize,
     marks: &mut [u8],
 ) -> Found
-    requires last_bound { last ≤ n - 1 }
+    requires last_slot { last ≤ n - 1 }
     requires held { Held n letters.now lengths.now }
     requires inverted { Inverted n letters.now inverses.now lengths.now }
-    requires marks_len { length marks.old ≡ 256 }
-    requires marked_2 { Marked n (held n letters.now lengths.now) marks.old }
+    requires table { length marks.old ≡ 256 }
+    requires marked { Marked n (held n letters.now lengths.now) marks.old }
     requires settled { Settled n (held n letters.now lengths.now) last }
     ensures found { found_move result ≡ shortening bytes (held n letters.now lengths.now) }
     ensures below { FoundBelow n result }

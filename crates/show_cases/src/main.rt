@@ -47,8 +47,8 @@ fn show_case(
     given_length: usize,
     slot: u8,
 ) -> io::Result<()>
-    requires reduced_length_bound { reduced_length ≤ 1152 }
-    requires given_length_bound { given_length ≤ 1152 }
+    requires reduced_fits { reduced_length ≤ 1152 }
+    requires given_fits { given_length ≤ 1152 }
 {
     let mut first = [0u8; 1152];
     let mut second = [0u8; 1152];

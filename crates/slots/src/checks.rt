@@ -27,8 +27,8 @@ pub fn check_system(system: &[u8]) -> Checked
 
 // Refusals 3 to 5, record by record.
 fn check_records(system: &[u8], n: usize) -> Checked
-    requires n_in_bounds { n * 64 ≤ length system.now }
-    requires n_bound { n ≤ 16 }
+    requires inside { n * 64 ≤ length system.now }
+    requires few { n ≤ 16 }
     ensures { result ≡ each_below (slot_rules system.now) n }
 {
     let mut k = 0;

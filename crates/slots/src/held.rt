@@ -11,8 +11,8 @@ use records::record::{RECORD, STOP, write_record};
 
 // Takes the words of a system, freely reduced, into two arrays.
 pub fn load(system: &[u8], letters: &mut [u8], lengths: &mut [usize])
-    requires system_len_bound { length system.now ≤ 1024 }
-    requires held_2 { Held 0 letters.old lengths.old }
+    requires size { length system.now ≤ 1024 }
+    requires held { Held 0 letters.old lengths.old }
     ensures words { held (slots system.now) letters.new lengths.new ≡ freely_reduced_words system.now }
     ensures held { Held (slots system.now) letters.new lengths.new }
 {
@@ -28,8 +28,8 @@ pub fn load(system: &[u8], letters: &mut [u8], lengths: &mut [usize])
 
 // Takes the word of one record, freely reduced, to the beginning of a buffer, and answers its length.
 pub fn load_word(source: &[u8], letters: &mut [u8]) -> usize
-    requires source_len { length source.now ≡ 64 }
-    requires letters_len { length letters.old ≡ 64 }
+    requires record_size { length source.now ≡ 64 }
+    requires room { length letters.old ≡ 64 }
     ensures short { result ≤ 63 }
     ensures word { take result letters.new ≡ freely_reduce bytes (word_of source.now) }
 {
@@ -48,19 +48,19 @@ pub fn load_word(source: &[u8], letters: &mut [u8]) -> usize
 
 // The length of the word held for a slot.
 pub fn length_of(lengths: &[usize], k: usize) -> usize
-    requires k_in_bounds { k < length lengths.now }
+    requires inside { k < length lengths.now }
     requires short { Short lengths.now }
-    ensures upper_bound { result ≤ 63 }
-    ensures value { result ≡ get_or lengths.now k 0 }
+    ensures most { result ≤ 63 }
+    ensures told { result ≡ get_or lengths.now k 0 }
 {
     lengths[k]
 }
 
 // The word held for a slot.
 pub fn word_at<'a>(letters: &'a [u8], lengths: &[usize], k: usize) -> &'a [u8]
-    requires k_bound { k < 16 }
-    requires letters_len { length letters.now ≡ 1024 }
-    requires lengths_len { length lengths.now ≡ 16 }
+    requires inside { k < 16 }
+    requires wide { length letters.now ≡ 1024 }
+    requires counted { length lengths.now ≡ 16 }
     requires short { Short lengths.now }
     ensures { result.now ≡ held_word letters.now lengths.now k }
 {
@@ -89,7 +89,7 @@ fn wide(b: u8) -> usize
 // Writes the words held in two arrays as records, each into the 64 bytes of its own slot.
 pub fn store(letters: &[u8], lengths: &[usize], n: usize, words: &mut [u8])
     requires held { Held n letters.now lengths.now }
-    requires n_in_bounds { n * 64 ≤ length words.old }
+    requires room { n * 64 ≤ length words.old }
     ensures { words.new ≡ written (bytes_of (held n letters.now lengths.now)) words.old }
 {
     let mut k = 0;

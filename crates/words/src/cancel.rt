@@ -14,8 +14,8 @@ pub fn least(a: usize, b: usize) -> usize
 
 // How many letters two words have in common at their beginnings: what the inverse of the first cancels with the second.
 pub fn common_prefix(u: &[u8], v: &[u8]) -> usize
-    ensures value { result ≡ common_prefix bytes u.now v.now }
-    ensures upper_bound { (result ≤ length u.now) × (result ≤ length v.now) }
+    ensures common { result ≡ common_prefix bytes u.now v.now }
+    ensures within { (result ≤ length u.now) × (result ≤ length v.now) }
 {
     let most = least(u.len(), v.len());
     let mut i = 0;
@@ -30,8 +30,8 @@ pub fn common_prefix(u: &[u8], v: &[u8]) -> usize
 
 // How many letters two words have in common at their ends: what the first cancels with the inverse of the second.
 pub fn common_suffix(u: &[u8], v: &[u8]) -> usize
-    ensures value { result ≡ common_suffix bytes u.now v.now }
-    ensures upper_bound { (result ≤ length u.now) × (result ≤ length v.now) }
+    ensures common { result ≡ common_suffix bytes u.now v.now }
+    ensures within { (result ≤ length u.now) × (result ≤ length v.now) }
 {
     let most = least(u.len(), v.len());
     let mut i = 0;
@@ -50,8 +50,8 @@ pub fn common_suffix(u: &[u8], v: &[u8]) -> usize
 
 // How many letters the end of one word cancels with the beginning of another.
 pub fn cancellation(u: &[u8], v: &[u8]) -> usize
-    ensures value { result ≡ cancellation bytes u.now v.now }
-    ensures upper_bound { (result ≤ length u.now) × (result ≤ length v.now) }
+    ensures cancelled { result ≡ cancellation bytes u.now v.now }
+    ensures within { (result ≤ length u.now) × (result ≤ length v.now) }
 {
     let most = least(u.len(), v.len());
     let mut i = 0;
@@ -68,8 +68,8 @@ pub fn cancellation(u: &[u8], v: &[u8]) -> usize
 
 // How many letters two words, each of them inverted or not, have in common at their beginnings.
 pub fn common_prefix_signed(inverted: bool, u: &[u8], reversed: bool, v: &[u8]) -> usize
-    ensures value { result ≡ common_prefix bytes (signed bytes inverted u.now) (signed bytes reversed v.now) }
-    ensures upper_bound { (result ≤ length u.now) × (result ≤ length v.now) }
+    ensures common { result ≡ common_prefix bytes (signed bytes inverted u.now) (signed bytes reversed v.now) }
+    ensures within { (result ≤ length u.now) × (result ≤ length v.now) }
 {
     if inverted {
         if reversed {

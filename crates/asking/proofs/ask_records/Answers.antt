@@ -22,8 +22,8 @@ returns-in_default-ready-clause-answer c = search (asked-refused, then_fine, rea
 pub returns-in_default-ready-clause-product : goal.returns-in_default-ready-clause-product
 returns-in_default-ready-clause-product c = search (unchanged, then_fine, ready_told, rules)
 
-pub ask_held-verdict-requires-clause-target_len : goal.ask_held-verdict-requires-clause-target_len
-ask_held-verdict-requires-clause-target_len c = (search (question_target, rules), ready_room _ _ c.check_ready-ready.ensures c.in-Fine-ready.is)
+pub ask_held-verdict-requires-clause-sizes : goal.ask_held-verdict-requires-clause-sizes
+ask_held-verdict-requires-clause-sizes c = (search (question_target, rules), ready_room _ _ c.check_ready-ready.ensures c.in-Fine-ready.is)
 
 pub returns-clause-answer : goal.returns-clause-answer
 returns-clause-answer c =

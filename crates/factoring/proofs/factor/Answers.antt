@@ -8,14 +8,14 @@ use Rattle.factoring.proofs.factor.Goals.{else-loop-size-test, then-loop-size-te
 pub loop-size-init : goal.loop-size-init
 loop-size-init c = search (left_begin, rules)
 
-pub take_off-size-requires-clause-slot_lt_n : goal.take_off-size-requires-clause-slot_lt_n
-take_off-size-requires-clause-slot_lt_n c = (search (lead_below_lem, rules), search rules, search rules)
+pub take_off-size-requires-clause-inside : goal.take_off-size-requires-clause-inside
+take_off-size-requires-clause-inside c = (search (lead_below_lem, rules), search rules, search rules)
 
-pub take_off-size-requires-clause-word_value : goal.take_off-size-requires-clause-word_value
-take_off-size-requires-clause-word_value c = search (left_freely_reduced, rules)
+pub take_off-size-requires-clause-freely : goal.take_off-size-requires-clause-freely
+take_off-size-requires-clause-freely c = search (left_freely_reduced, rules)
 
-pub take_off-size-requires-clause-word_value_2 : goal.take_off-size-requires-clause-word_value_2
-take_off-size-requires-clause-word_value_2 c = search (left_leads, rules)
+pub take_off-size-requires-clause-leads : goal.take_off-size-requires-clause-leads
+take_off-size-requires-clause-leads c = search (left_leads, rules)
 
 pub factor_byte-requires : goal.factor_byte-requires
 factor_byte-requires c = search (lead_slot, rules)

@@ -4,8 +4,8 @@ use Rattle.words.proofs.Joining.{pushed_freely_reduced}
 use Rattle.factoring.proofs.Factoring.{verdict_told, product_kept, product-written}
 use Rattle.factoring.proofs.factor_target.Goals as goal
 
-pub factor-factored-requires-clause-word_value : goal.factor-factored-requires-clause-word_value
-factor-factored-requires-clause-word_value c = search (pushed_freely_reduced, rules)
+pub factor-factored-requires-clause-freely : goal.factor-factored-requires-clause-freely
+factor-factored-requires-clause-freely c = search (pushed_freely_reduced, rules)
 
 pub returns-then-member-clause-found : goal.returns-then-member-clause-found
 returns-then-member-clause-found c = search (verdict_told, rules)

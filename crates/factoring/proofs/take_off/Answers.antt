@@ -5,14 +5,14 @@ use Rattle.slots.proofs.Holding.{held-reduced, held-short}
 use Rattle.factoring.proofs.Factoring.{front_freely_reduced, left_fits, left_short, left_word}
 use Rattle.factoring.proofs.take_off.Goals as goal
 
-pub divide-left-requires-clause-divisor_len_bound : goal.divide-left-requires-clause-divisor_len_bound
-divide-left-requires-clause-divisor_len_bound c = (search (held-short, rules), search (front_short, rules), search rules)
+pub divide-left-requires-clause-sizes : goal.divide-left-requires-clause-sizes
+divide-left-requires-clause-sizes c = (search (held-short, rules), search (front_short, rules), search rules)
 
-pub divide-left-requires-clause-divisor_value : goal.divide-left-requires-clause-divisor_value
-divide-left-requires-clause-divisor_value c = search (held-reduced, rules)
+pub divide-left-requires-clause-divisor_freely : goal.divide-left-requires-clause-divisor_freely
+divide-left-requires-clause-divisor_freely c = search (held-reduced, rules)
 
-pub divide-left-requires-clause-word_value : goal.divide-left-requires-clause-word_value
-divide-left-requires-clause-word_value c = search (front_freely_reduced, rules)
+pub divide-left-requires-clause-word_freely : goal.divide-left-requires-clause-word_freely
+divide-left-requires-clause-word_freely c = search (front_freely_reduced, rules)
 
 pub copy-requires : goal.copy-requires
 copy-requires c = search (left_fits, rules)

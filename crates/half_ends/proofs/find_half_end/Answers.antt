@@ -6,5 +6,5 @@ use Rattle.half_ends.proofs.find_half_end.Goals as goal
 pub returns-then-h-n-clause-found : goal.returns-then-h-n-clause-found
 returns-then-h-n-clause-found c = search (none_chosen, rules)
 
-pub half_end_by-requires-clause-n_value : goal.half_end_by-requires-clause-n_value
-half_end_by-requires-clause-n_value c = search (some_chosen, rules)
+pub half_end_by-requires-clause-shortest : goal.half_end_by-requires-clause-shortest
+half_end_by-requires-clause-shortest c = search (some_chosen, rules)

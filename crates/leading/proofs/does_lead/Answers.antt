@@ -15,8 +15,8 @@ returns-then-size-ne0 c = search (half_odd, rules)
 pub returns-then-begun-size : goal.returns-then-begun-size
 returns-then-begun-size c = search (half-short, rules)
 
-pub ends_elsewhere-requires-clause-k_len : goal.ends_elsewhere-requires-clause-k_len
-ends_elsewhere-requires-clause-k_len c = search (whole_even, rules)
+pub ends_elsewhere-requires-clause-even : goal.ends_elsewhere-requires-clause-even
+ends_elsewhere-requires-clause-even c = search (whole_even, rules)
 
 pub returns : goal.returns
 returns c = search (half-begins, rules)

@@ -22,11 +22,11 @@ slice_bounds-write_record-end c = search (passed_short, rules)
 pub slice_bounds-write_record-end-2 : goal.slice_bounds-write_record-end-2
 slice_bounds-write_record-end-2 c = search (passed_room, rules)
 
-pub write_record-requires-clause-word_len_bound : goal.write_record-requires-clause-word_len_bound
-write_record-requires-clause-word_len_bound c = search (piece_short, rules)
+pub write_record-requires-clause-fits : goal.write_record-requires-clause-fits
+write_record-requires-clause-fits c = search (piece_short, rules)
 
-pub write_record-requires-clause-out_len : goal.write_record-requires-clause-out_len
-write_record-requires-clause-out_len c = search (passed_room, rules)
+pub write_record-requires-clause-room : goal.write_record-requires-clause-room
+write_record-requires-clause-room c = search (passed_room, rules)
 
 pub returns-clause-answer : goal.returns-clause-answer
 returns-clause-answer c = search (answered, rules_told, rules)

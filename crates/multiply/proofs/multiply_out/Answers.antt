@@ -7,11 +7,11 @@ use Rattle.multiply.proofs.multiply_out.Goals as goal
 pub loop-j-init : goal.loop-j-init
 loop-j-init c = search (read_begin, rules)
 
-pub push_factor-size-requires-clause-b_bound : goal.push_factor-size-requires-clause-b_bound
-push_factor-size-requires-clause-b_bound c = search (slot_inside, rules)
+pub push_factor-size-requires-clause-inside : goal.push_factor-size-requires-clause-inside
+push_factor-size-requires-clause-inside c = search (slot_inside, rules)
 
-pub push_factor-size-requires-clause-list_value : goal.push_factor-size-requires-clause-list_value
-push_factor-size-requires-clause-list_value c = search (read_freely_reduced, rules)
+pub push_factor-size-requires-clause-freely : goal.push_factor-size-requires-clause-freely
+push_factor-size-requires-clause-freely c = search (read_freely_reduced, rules)
 
 pub loop-j-preserved : goal.loop-j-preserved
 loop-j-preserved c = search (read_more, rules)

@@ -31,11 +31,11 @@ bracket-overflow_add-end t c = search (size_fits, bracket-before_end, rules)
 pub bracket-overflow_add-end-2 : goal.bracket-overflow_add-end-2
 bracket-overflow_add-end-2 t c = search (size_fits, bracket_end, rules)
 
-pub bracket-powered-requires-clause-at_in_bounds : goal.bracket-powered-requires-clause-at_in_bounds
-bracket-powered-requires-clause-at_in_bounds t c = search (bracket_end, bracket_power, rules)
+pub bracket-powered-requires-clause-within : goal.bracket-powered-requires-clause-within
+bracket-powered-requires-clause-within t c = search (bracket_end, bracket_power, rules)
 
 pub bracket-returns-clause-reads : goal.bracket-returns-clause-reads
-bracket-returns-clause-reads t c = search (read_bracket, c.requires.text_value, rules)
+bracket-returns-clause-reads t c = search (read_bracket, c.requires.opens, rules)
 
 pub factor-bracket-requires : goal.factor-bracket-requires
 factor-bracket-requires t c = (search (factor_hands_on, rules), search rules)
@@ -49,14 +49,14 @@ factor-product-inner-requires t c = (search (factor_calls, rules), search (group
 pub factor-overflow_add-end : goal.factor-overflow_add-end
 factor-overflow_add-end t c = search (size_fits, group_end, rules)
 
-pub factor-powered-requires-clause-at_in_bounds : goal.factor-powered-requires-clause-at_in_bounds
-factor-powered-requires-clause-at_in_bounds t c = search (group_end, group_power, rules)
+pub factor-powered-requires-clause-within : goal.factor-powered-requires-clause-within
+factor-powered-requires-clause-within t c = search (group_end, group_power, rules)
 
 pub factor-returns-then-b-eq-GROUP_OPENS-clause-reads : goal.factor-returns-then-b-eq-GROUP_OPENS-clause-reads
 factor-returns-then-b-eq-GROUP_OPENS-clause-reads t c = search (read_group, rules)
 
-pub factor-powered-requires-2-clause-at_in_bounds : goal.factor-powered-requires-2-clause-at_in_bounds
-factor-powered-requires-2-clause-at_in_bounds t c = search (letter_power, rules)
+pub factor-powered-requires-2-clause-within : goal.factor-powered-requires-2-clause-within
+factor-powered-requires-2-clause-within t c = search (letter_power, rules)
 
 pub factor-returns-clause-reads : goal.factor-returns-clause-reads
 factor-returns-clause-reads t c = search (read_letter, rules)
@@ -73,8 +73,8 @@ product-returns-then-not-more-clause-reads t c = search (read_all, rules)
 pub product-factor-next-requires : goal.product-factor-next-requires
 product-factor-next-requires t c = (search (product_calls, rules), search (factor_readable, factor_full, factor_starts, rules))
 
-pub product-append-length-requires-clause-sound_2 : goal.product-append-length-requires-clause-sound_2
-product-append-length-requires-clause-sound_2 t c = c.loop-at.invariant.sound
+pub product-append-length-requires-clause-row_sound : goal.product-append-length-requires-clause-row_sound
+product-append-length-requires-clause-row_sound t c = c.loop-at.invariant.sound
 
 pub product-overflow_add-at : goal.product-overflow_add-at
 product-overflow_add-at t c = search (size_fits, factor_inside, rules)

@@ -11,14 +11,14 @@ returns-then-n-gt63 c = search (too_long_none, rules)
 pub returns-then-m-gt63 : goal.returns-then-m-gt63
 returns-then-m-gt63 c = search (fits_some, too_long_none, rules)
 
-pub commute_letters-size-requires-clause-u_len_bound : goal.commute_letters-size-requires-clause-u_len_bound
-commute_letters-size-requires-clause-u_len_bound c = search (front_short, rules)
+pub commute_letters-size-requires-clause-sizes : goal.commute_letters-size-requires-clause-sizes
+commute_letters-size-requires-clause-sizes c = search (front_short, rules)
 
-pub commute_letters-size-requires-clause-u_value : goal.commute_letters-size-requires-clause-u_value
-commute_letters-size-requires-clause-u_value c = search (word-freely_reduced, rules)
+pub commute_letters-size-requires-clause-first_freely : goal.commute_letters-size-requires-clause-first_freely
+commute_letters-size-requires-clause-first_freely c = search (word-freely_reduced, rules)
 
-pub commute_letters-size-requires-clause-v_value : goal.commute_letters-size-requires-clause-v_value
-commute_letters-size-requires-clause-v_value c = search (word-freely_reduced, rules)
+pub commute_letters-size-requires-clause-second_freely : goal.commute_letters-size-requires-clause-second_freely
+commute_letters-size-requires-clause-second_freely c = search (word-freely_reduced, rules)
 
 pub kept-requires : goal.kept-requires
 kept-requires c = search (pushed_freely_reduced, rules)

@@ -8,11 +8,11 @@ use Rattle.powers.proofs.raise.Goals as goal
 pub returns-then-n-gt63 : goal.returns-then-n-gt63
 returns-then-n-gt63 c = search (too_long_none, rules)
 
-pub repeat-size-requires-clause-word_len_bound : goal.repeat-size-requires-clause-word_len_bound
-repeat-size-requires-clause-word_len_bound c = search (front_short, rules)
+pub repeat-size-requires-clause-sizes : goal.repeat-size-requires-clause-sizes
+repeat-size-requires-clause-sizes c = search (front_short, rules)
 
-pub repeat-size-requires-clause-word_value : goal.repeat-size-requires-clause-word_value
-repeat-size-requires-clause-word_value c = search (word-freely_reduced, rules)
+pub repeat-size-requires-clause-freely : goal.repeat-size-requires-clause-freely
+repeat-size-requires-clause-freely c = search (word-freely_reduced, rules)
 
 pub kept-requires : goal.kept-requires
 kept-requires c = search (pushed_freely_reduced, rules)

@@ -15,7 +15,7 @@ search-init c = (search (changed_begin, rules), search rules)
 
 pub length_of-whole-requires : goal.length_of-whole-requires
 length_of-whole-requires c =
-    record { k_in_bounds = (slot-length _ _ _ _ c.requires.held c.search-test.true).0; short = c.requires.held.short }
+    record { inside = (slot-length _ _ _ _ c.requires.held c.search-test.true).0; short = c.requires.held.short }
 
 pub loop-i-init : goal.loop-i-init
 loop-i-init c = (search (others_begin, rules), search rules, search rules)
@@ -24,7 +24,7 @@ pub length_of-size-requires : goal.length_of-size-requires
 length_of-size-requires c =
     let others = c.loop-i.invariant.0 in
     let inside : c.loop-i.i < c.args.n = omega (arith, c.loop-i-test.true, others.end_within) in
-    record { k_in_bounds = (slot-length _ _ _ _ c.requires.held inside).0; short = c.requires.held.short }
+    record { inside = (slot-length _ _ _ _ c.requires.held inside).0; short = c.requires.held.short }
 
 pub loop-form-init : goal.loop-form-init
 loop-form-init c = (search (forms_begin, rules), search rules, search rules, search rules, search rules, search rules)
@@ -32,25 +32,25 @@ loop-form-init c = (search (forms_begin, rules), search rules, search rules, sea
 pub is_close-close-requires : goal.is_close-close-requires
 is_close-close-requires c =
     let pair = pair_inside _ _ _ _ _ _ _ _ _ _ _ c.loop-form.invariant.0 in
-    record { form_bound = (c.loop-form-test.true, pair.0, pair.1); held = c.requires.held; inverted = c.requires.inverted }
+    record { inside = (c.loop-form-test.true, pair.0, pair.1); held = c.requires.held; inverted = c.requires.inverted }
 
 pub seam_of-c-requires : goal.seam_of-c-requires
 seam_of-c-requires c =
     let pair = pair_inside _ _ _ _ _ _ _ _ _ _ _ c.loop-form.invariant.0 in
-    record { form_bound = (c.loop-form-test.true, pair.0, pair.1); held = c.requires.held; inverted = c.requires.inverted }
+    record { inside = (c.loop-form-test.true, pair.0, pair.1); held = c.requires.held; inverted = c.requires.inverted }
 
 pub loop-form-preserved : goal.loop-form-preserved
 loop-form-preserved c =
     let tried = c.loop-form.invariant in (
       elim c.if-close.branch [
-        | then-close+else-size-c w ↦ forms_turn _ _ _ _ _ _ _ _ _ _ _ tried.0 _ _ w.seam_of-c.ensures.value tried.2 _ _ _ c.loop-form-test.true
+        | then-close+else-size-c w ↦ forms_turn _ _ _ _ _ _ _ _ _ _ _ tried.0 _ _ w.seam_of-c.ensures.seam tried.2 _ _ _ c.loop-form-test.true
             w.if-size-c.false w.greatest-most.ensures w.most-is refl
         | else-close w ↦ forms_pass _ _ _ _ _ _ _ _ _ _ _ tried.0 _ _ c.loop-form-test.true w.most-is refl c.is_close-close.ensures w.if-close.false
       ],
       tried.1,
       tried.2,
       elim c.if-close.branch [
-        | then-close+else-size-c w ↦ omega (arith, tried.3, w.seam_of-c.ensures.upper_bound, w.greatest-most.ensures, w.most-is)
+        | then-close+else-size-c w ↦ omega (arith, tried.3, w.seam_of-c.ensures.most, w.greatest-most.ensures, w.most-is)
         | else-close w ↦ omega (arith, tried.3, w.most-is)
       ],
       tried.4,
@@ -82,7 +82,7 @@ pub returns-then-size-c : goal.returns-then-size-c
 returns-then-size-c c =
     let tried = c.loop-form.invariant in
     record {
-      found = forms_found _ _ _ _ _ _ _ _ _ _ _ tried.0 _ _ c.seam_of-c.ensures.value tried.2 c.loop-form-test.true c.if-size-c.true;
+      found = forms_found _ _ _ _ _ _ _ _ _ _ _ tried.0 _ _ c.seam_of-c.ensures.seam tried.2 c.loop-form-test.true c.if-size-c.true;
       below = forms_below _ _ _ _ _ _ _ _ _ _ _ tried.0 c.loop-form-test.true;
       marked = tried.0.others.changed.ready.marked;
     }

@@ -6,11 +6,11 @@ use Rattle.records.proofs.record.check_stops.Goals as goal
 pub loop-i-init : goal.loop-i-init
 loop-i-init c = search (stops_begin, rules)
 
-pub check_rest-requires-clause-fact : goal.check_rest-requires-clause-fact
-check_rest-requires-clause-fact c = search (rest-first, rest_filled, rules)
+pub check_rest-requires-clause-begins_with_no_stop : goal.check_rest-requires-clause-begins_with_no_stop
+check_rest-requires-clause-begins_with_no_stop c = search (rest-first, rest_filled, rules)
 
-pub check_rest-requires-clause-ordered_value : goal.check_rest-requires-clause-ordered_value
-check_rest-requires-clause-ordered_value c = search (rest-refused, rules)
+pub check_rest-requires-clause-refusal_5 : goal.check_rest-requires-clause-refusal_5
+check_rest-requires-clause-refusal_5 c = search (rest-refused, rules)
 
 pub returns-in_default : goal.returns-in_default
 returns-in_default c = search (stops-rest, rules)

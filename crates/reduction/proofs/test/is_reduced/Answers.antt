@@ -4,8 +4,8 @@ use Rattle.marks.proofs.Marking.{marked_none, settled_none}
 use Rattle.reduction.proofs.Calls.{found-stopped}
 use Rattle.reduction.proofs.test.is_reduced.Goals as goal
 
-pub find_move-found-requires-clause-marked_2 : goal.find_move-found-requires-clause-marked_2
-find_move-found-requires-clause-marked_2 c = search (marked_none, rules)
+pub find_move-found-requires-clause-marked : goal.find_move-found-requires-clause-marked
+find_move-found-requires-clause-marked c = search (marked_none, rules)
 
 pub find_move-found-requires-clause-settled : goal.find_move-found-requires-clause-settled
 find_move-found-requires-clause-settled c = search (settled_none, rules)
