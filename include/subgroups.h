@@ -6,8 +6,8 @@
  * byte buffers of any length and content, and either does its work or refuses; its answer and each byte that it leaves are
  * proved for all of them. docs/REQUIREMENTS.md says in full what is promised.
  *
- *                rt staticlib subgroups_c
- *                gcc -Iinclude program.c target/staticlib/libsubgroups_c.a
+ *                (cd crates/subgroups_c && rt lib)
+ *                gcc -Iinclude program.c crates/subgroups_c/out/libsubgroups_c.a
  *
  * Words      A generator is a letter a to z, its inverse the capital: aB is a, then the inverse of b. A word has at most
  *            63 letters. Free reduction removes neighbours such as aA and Aa until none are left.

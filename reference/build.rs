@@ -1,5 +1,5 @@
 //! Tells the linker where the proved static library lies: the folder named by SUBGROUPS_LIB,
-//! or ../target/staticlib beside this package. Only the binaries compare and bench ask for it.
+//! or ../crates/subgroups_c/out beside this package. Only the binaries compare and bench ask for it.
 
 use std::env;
 use std::path::PathBuf;
@@ -11,7 +11,7 @@ fn main() {
     let package = PathBuf::from(env::var_os("CARGO_MANIFEST_DIR").expect("set by cargo"));
     let folder = match env::var_os("SUBGROUPS_LIB") {
         Some(folder) => PathBuf::from(folder),
-        None => package.join("../target/staticlib"),
+        None => package.join("../crates/subgroups_c/out"),
     };
     println!("cargo:rustc-link-search=native={}", folder.display());
     let library = folder.join("libsubgroups_c.a");
