@@ -2,16 +2,14 @@
 use Prim.Native.Nat.{◌≤◌, ℕ}
 use mathlib.Core.Bool.{Bool}
 use mathlib.Core.List.{List}
-use mathlib.Core.Option.{Option}
+use Rattle.std.specs.Prelude.{Option}
 use mathlib.Core.Path.{◌∙◌, ◌≡◌, ap, sym}
 use lib.ListN.{length}
 use borrow.Author.Tests.{leb-true}
-use Rattle.systems.specs.Products.{Factor}
+use Rattle.systems.specs.declared.Factor.{Factor}
 use Rattle.records.specs.Answers.{answer_of}
 use Rattle.records.specs.Refusals.{must}
 use Rattle.records.specs.declared.answers.Answer.{Answer}
-use Rattle.records.specs.declared.answers.Checked.{Checked}
-use Rattle.records.specs.declared.answers.Checked.TheVariants.{Failed, Fine}
 use Rattle.records.specs.declared.answers.Refusal.{Refusal}
 use Rattle.records.specs.declared.answers.Verdict.{Verdict}
 use Rattle.records.proofs.Chains.{fine_first, fine_next, must_fine}
@@ -22,10 +20,13 @@ use Rattle.slots.proofs.Systems.{system-size}
 use Rattle.runs.specs.Runs.{stopped}
 use Rattle.factoring.specs.TargetProduct.{is_found, product_after, product_for}
 use Rattle.asking.specs.Asking.{asked_of, question_rules, ready_rules, verdict_of}
+use Rattle.records.specs.declared.refusals.Reason.TheVariants.{ProductBufferShort, SystemNotReduced}
+use Rattle.std.specs.Prelude.{Err, Ok}
+use Rattle.records.specs.Refusals.{Checked}
 
 -- what refusals 1 to 6 tell once they are passed
-module _ (s t : List ℕ) {x : Checked} (e : x ≡ question_rules s t) (h : x ≡ Fine) where
-  passed : question_rules s t ≡ Fine
+module _ (s t : List ℕ) {x : Checked} (e : x ≡ question_rules s t) (h : x ≡ Ok tt) where
+  passed : question_rules s t ≡ Ok tt
   passed = sym e ∙ h
 
   pub question_size : length s ≤ 1024
@@ -37,9 +38,9 @@ module _ (s t : List ℕ) {x : Checked} (e : x ≡ question_rules s t) (h : x �
   question_target = target-sized t (fine_next (system_rules s) _ passed)
 
 -- what 15 and 11 tell once they are passed
-pub ready_room : (S : List (List ℕ)) (room : ℕ) {x : Checked} → x ≡ ready_rules S room → x ≡ Fine → 64 ≤ room
+pub ready_room : (S : List (List ℕ)) (room : ℕ) {x : Checked} → x ≡ ready_rules S room → x ≡ Ok tt → 64 ≤ room
 unfolding ready_rules
-ready_room S room e h = leb-true 64 room (must_fine _ 11 0 (fine_next (must (stopped S) 15 0) _ (sym e ∙ h)))
+ready_room S room e h = leb-true 64 room (must_fine _ ProductBufferShort 0 (fine_next (must (stopped S) SystemNotReduced 0) _ (sym e ∙ h)))
 
 -- the tests of words taken in are those of the system's words
 pub ready_told : (S T : List (List ℕ)) (room : ℕ) {x : Checked} → S ≡ T → x ≡ ready_rules S room → x ≡ ready_rules T room
@@ -47,10 +48,10 @@ ready_told S T room same e = e ∙ ap (λ (U : List (List ℕ)). ready_rules U r
 
 -- the answer by what the tests found
 module _ (c : Checked) (v : Verdict) {x : Checked} (e : x ≡ c) where
-  pub asked-refused : {a : Answer} {f : Refusal} → x ≡ Failed f → a ≡ answer_of x → a ≡ asked_of c v
+  pub asked-refused : {a : Answer} {f : Refusal} → x ≡ Err f → a ≡ answer_of x → a ≡ asked_of c v
   asked-refused h told = told ∙ ap answer_of h ∙ sym (ap (λ (d : Checked). asked_of d v) (sym e ∙ h))
 
-  pub asked-given : {u : Verdict} → x ≡ Fine → u ≡ v → ◌≡◌ {A = Answer} (record { verdict = u }) (asked_of c v)
+  pub asked-given : {u : Verdict} → x ≡ Ok tt → u ≡ v → ◌≡◌ {A = Answer} (record { verdict = u }) (asked_of c v)
   asked-given h same = (λ i. record { verdict = same i }) ∙ sym (ap (λ (d : Checked). asked_of d v) (sym e ∙ h))
 
 -- the verdict from what was found

@@ -1,19 +1,20 @@
 -- Ask: "a system that is reduced after free reduction and a target in; member or not, and for a member the product over the freely reduced
 -- words. Nothing but the product is written."
 use Rattle.std.specs.Prelude.{ℕ, Bool, false, true, List, leb, length}
-use Rattle.std.proofs.Math.Option.{Option}
-use Rattle.systems.specs.Products.{Factor}
+use Rattle.std.specs.Prelude.{Option}
+use Rattle.systems.specs.declared.Factor.{Factor}
 use Rattle.records.specs.Answers.{on_fine}
 use Rattle.records.specs.Refusals.{◌and_then◌, must, target_rules}
 use Rattle.records.specs.declared.answers.Answer.{Answer}
-use Rattle.records.specs.declared.answers.Checked.{Checked}
-use Rattle.records.specs.declared.answers.Checked.TheVariants.{Failed, Fine}
 use Rattle.records.specs.declared.answers.Verdict.{Verdict}
 use Rattle.records.specs.declared.answers.Verdict.TheVariants.{Member, NotMember, Refused}
 use Rattle.slots.specs.Refusals.{system_rules}
 use Rattle.slots.specs.Systems.{freely_reduced_words}
 use Rattle.runs.specs.Runs.{stopped}
 use Rattle.factoring.specs.TargetProduct.{is_found, product_after, product_for, target_word}
+use Rattle.records.specs.declared.refusals.Reason.TheVariants.{ProductBufferShort, SystemNotReduced}
+use Rattle.std.specs.Prelude.{Err, Ok}
+use Rattle.records.specs.Refusals.{Checked}
 
 -- whether the target is a member, as the verdict says it
 abbrev pub verdict_of : Bool → Verdict
@@ -27,12 +28,12 @@ question_rules s t = system_rules s and_then target_rules t
 -- 15. "The system isn't reduced after free reduction.": some rule applies (`not_reduced` of Meaning). 11. "The product buffer is shorter than
 -- 64 bytes."
 unfoldable pub ready_rules : List (List ℕ) → ℕ → Checked
-ready_rules S room = must (stopped S) 15 0 and_then must (leb 64 room) 11 0
+ready_rules S room = must (stopped S) SystemNotReduced 0 and_then must (leb 64 room) ProductBufferShort 0
 
 -- "tidy, replay, multiply and ask answer with the verdict alone": of ask a refusal, or the verdict on the target
 abbrev pub asked_of : Checked → Verdict → Answer
-asked_of Fine verdict = record { verdict = verdict }
-asked_of (Failed f) verdict = record { verdict = Refused f }
+asked_of (Ok _) verdict = record { verdict = verdict }
+asked_of (Err f) verdict = record { verdict = Refused f }
 
 -- the product over the freely reduced words that the target is
 abbrev pub ask_found : List ℕ → List ℕ → Option (List Factor)

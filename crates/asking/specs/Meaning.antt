@@ -3,19 +3,20 @@
 use Rattle.std.specs.Prelude.{◌≤◌, ℕ, ◌≡◌, ◌↔◌, ◌⊎◌, List, length, take}
 use Rattle.words.specs.Alphabet.{bytes}
 use Rattle.words.specs.Words.{freely_reduce}
-use Rattle.systems.specs.Products.{Factor, FreelyReducedOver, Generated, multiplied}
+use Rattle.systems.specs.Products.{FreelyReducedOver, Generated, multiplied}
+use Rattle.systems.specs.declared.Factor.{Factor}
 use Rattle.systems.specs.Reduced.{Reduced}
 use Rattle.records.specs.Answers.{refusal_number}
 use Rattle.records.specs.Records.{word_of}
 use Rattle.records.specs.Refusals.{target_rules}
 use Rattle.records.specs.declared.answers.Answer.{Answer}
-use Rattle.records.specs.declared.answers.Checked.TheVariants.{Fine}
 use Rattle.records.specs.declared.answers.Verdict.{Verdict}
 use Rattle.records.specs.declared.answers.Verdict.TheVariants.{Member, NotMember}
 use Rattle.slots.specs.Factors.{product_of}
 use Rattle.slots.specs.Refusals.{system_rules}
 use Rattle.slots.specs.Systems.{freely_reduced_words, system_of}
 use Rattle.multiply.specs.Multiply.{multiply_rules}
+use Rattle.std.specs.Prelude.{Ok}
 
 -- what a verdict means for the given system and target, the system W whose freely reduced words are the reduced words, and the product P
 -- that was written
@@ -30,9 +31,9 @@ pub record Decides (given target W P : List ℕ) (verdict : Verdict) : Type 0 wh
   -- "multiplies out to what w freely reduces to"
   pub multiplies_out : verdict ≡ Member → multiplied bytes (system_of W) (product_of P) ≡ freely_reduce bytes (word_of target)
   -- "and fits one record"
-  pub fits : verdict ≡ Member → target_rules P ≡ Fine
+  pub fits : verdict ≡ Member → target_rules P ≡ Ok tt
   -- so multiply takes it with W
-  pub accepted : verdict ≡ Member → (room : ℕ) → 64 ≤ room → multiply_rules W P room ≡ Fine
+  pub accepted : verdict ≡ Member → (room : ℕ) → 64 ≤ room → multiply_rules W P room ≡ Ok tt
   -- "every other product that is freely reduced over those words, of whatever length, multiplies out to another word"
   pub only : verdict ≡ Member → (q : List Factor) → FreelyReducedOver bytes (freely_reduced_words W) q
       → multiplied bytes (system_of W) q ≡ freely_reduce bytes (word_of target) → q ≡ product_of P
@@ -48,8 +49,8 @@ pub record ThirdDemand (EnoughRoom : Type 0) (given target W P : List ℕ) (verd
 
 -- what is enough to ask: well-formed records, "where S is reduced after free reduction", and "64 bytes of product buffer alone"
 pub record EnoughToAsk (given target product : List ℕ) : Type 0 where
-  pub system : system_rules given ≡ Fine
-  pub target_fits : target_rules target ≡ Fine
+  pub system : system_rules given ≡ Ok tt
+  pub target_fits : target_rules target ≡ Ok tt
   pub reduced : Reduced bytes (freely_reduced_words given)
   pub product_fits : 64 ≤ length product
 
@@ -57,7 +58,7 @@ pub record EnoughToAsk (given target product : List ℕ) : Type 0 where
 pub record AskMeans (given target product : List ℕ) (answer : Answer) (product' : List ℕ) : Type 0 where
   pub third_demand : ThirdDemand (EnoughToAsk given target product) given target given (take 64 product') answer.verdict
   -- refusal 15, where no earlier one applies: "The system isn't reduced after free reduction."
-  pub not_reduced : system_rules given ≡ Fine → target_rules target ≡ Fine
+  pub not_reduced : system_rules given ≡ Ok tt → target_rules target ≡ Ok tt
       → (refusal_number answer.verdict ≡ 15) ↔ (Reduced bytes (freely_reduced_words given) → ⊥)
   -- so only a reduced system is answered
   pub reduced : Answered answer.verdict → Reduced bytes (freely_reduced_words given)

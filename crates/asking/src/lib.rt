@@ -8,9 +8,9 @@ ghost use Rattle.asking.specs.Asking.{ask_answer, ask_product, question_rules, r
 ghost use Rattle.asking.specs.Meaning.{AskMeans};
 
 use factoring::factor_target;
-use records::answers::{Answer, Checked, Verdict, answer_of, check_that};
+use records::answers::{Answer, Refusal, Verdict, answer_of, check_that};
 use records::record::{RECORD, check_target};
-use records::refusals::{PRODUCT_BUFFER_SHORT, SYSTEM_NOT_REDUCED};
+use records::refusals::Reason;
 use reduction::test::is_reduced;
 use slots::checks::check_system;
 use slots::held::load;
@@ -30,7 +30,7 @@ fn ask_records(system: &[u8], target: &[u8], product: &mut [u8]) -> Answer
     ensures product { product.new ≡ ask_product system.now target.now product.old }
 {
     let checked = check_question(system, target);
-    let Checked::Fine = checked else {
+    let Ok(()) = checked else {
         return answer_of(checked);
     };
     let n = system.len() / RECORD;
@@ -38,7 +38,7 @@ fn ask_records(system: &[u8], target: &[u8], product: &mut [u8]) -> Answer
     let mut lengths = [0usize; 16];
     load(system, &mut letters, &mut lengths);
     let ready = check_ready(&letters, &lengths, n, product.len());
-    let Checked::Fine = ready else {
+    let Ok(()) = ready else {
         return answer_of(ready);
     };
     let verdict = ask_held(target, n, &letters, &lengths, product);
@@ -46,35 +46,35 @@ fn ask_records(system: &[u8], target: &[u8], product: &mut [u8]) -> Answer
 }
 
 // Refusals 1 to 6: a system and a target.
-fn check_question(system: &[u8], target: &[u8]) -> Checked
+fn check_question(system: &[u8], target: &[u8]) -> Result<(), Refusal>
     ensures { result ≡ question_rules system.now target.now }
 {
     let checked = check_system(system);
-    let Checked::Fine = checked else {
+    let Ok(()) = checked else {
         return checked;
     };
     let targeted = check_target(target);
-    let Checked::Fine = targeted else {
+    let Ok(()) = targeted else {
         return targeted;
     };
-    Checked::Fine
+    Ok(())
 }
 
 // Refusals 15 and 11: the words held in arrays are reduced, and the product has room.
-fn check_ready(letters: &[u8], lengths: &[usize], n: usize, room: usize) -> Checked
+fn check_ready(letters: &[u8], lengths: &[usize], n: usize, room: usize) -> Result<(), Refusal>
     requires { Held n letters.now lengths.now }
     ensures { result ≡ ready_rules (held n letters.now lengths.now) room }
 {
     let reduced = is_reduced(letters, lengths, n);
-    let checked = check_that(reduced, SYSTEM_NOT_REDUCED, 0);
-    let Checked::Fine = checked else {
+    let checked = check_that(reduced, Reason::SystemNotReduced, 0);
+    let Ok(()) = checked else {
         return checked;
     };
-    let roomy = check_that(room >= RECORD, PRODUCT_BUFFER_SHORT, 0);
-    let Checked::Fine = roomy else {
+    let roomy = check_that(room >= RECORD, Reason::ProductBufferShort, 0);
+    let Ok(()) = roomy else {
         return roomy;
     };
-    Checked::Fine
+    Ok(())
 }
 
 // The verdict on a target over reduced words held in arrays, with the product of a member in the lent buffer.

@@ -1,11 +1,11 @@
 -- The product over a reduced system that a target is, and what it writes.
 use Rattle.std.specs.Prelude.{ℕ, Bool, false, true, List, map}
-use Rattle.std.proofs.Math.Option.{Option, none, some}
+use Rattle.std.specs.Prelude.{None, Option, Some}
 use Rattle.words.specs.Alphabet.{bytes}
 use Rattle.words.specs.Buffers.{written}
 use Rattle.words.specs.Words.{freely_reduce}
 use Rattle.systems.specs.Factoring.{factored}
-use Rattle.systems.specs.Products.{Factor}
+use Rattle.systems.specs.declared.Factor.{Factor}
 use Rattle.records.specs.Records.{record_of, word_of}
 use Rattle.slots.specs.Factors.{factor_byte}
 
@@ -20,10 +20,10 @@ product_for T w = factored bytes T 63 w
 
 -- member or not
 abbrev pub is_found : Option (List Factor) → Bool
-is_found none = false
-is_found (some p) = true
+is_found None = false
+is_found (Some p) = true
 
 -- "'Not a member' .. leaves the product buffer alone."
 abbrev pub product_after : Option (List Factor) → List ℕ → List ℕ
-product_after none buffer = buffer
-product_after (some p) buffer = written (record_of (map factor_byte p)) buffer
+product_after None buffer = buffer
+product_after (Some p) buffer = written (record_of (map factor_byte p)) buffer

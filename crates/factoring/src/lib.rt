@@ -2,30 +2,22 @@
 // taken off.
 #![tactic(auto)]
 
-ghost use Rattle.std.specs.Prelude.{◌<◌, ◌≤◌, ◌++◌, ◌≡◌, length, take};
-ghost use Rattle.std.proofs.Math.Option.{some};
+ghost use Rattle.std.specs.Prelude.{◌<◌, ◌≤◌, ◌++◌, ◌≡◌, IfSome, length, take};
 ghost use Rattle.words.specs.Alphabet.{bytes};
 ghost use Rattle.words.specs.Words.{freely_reduce, inverse, signed};
 ghost use Rattle.systems.specs.Factoring.{leading};
 ghost use Rattle.systems.specs.Products.{value};
 ghost use Rattle.slots.specs.Factors.{factor_byte};
 ghost use Rattle.slots.specs.Held.{Held, held};
-ghost use Rattle.leading.specs.Leads.{as_factor};
 ghost use Rattle.factoring.specs.TargetProduct.{is_found, product_after, product_for, target_word};
 ghost use Rattle.factoring.specs.ProductLetters.{letters_in, product_letters};
 
-use leading::{Factor, Lead, leading_factor};
+use leading::leading_factor;
 use records::record::write_record;
 use slots::held::{load_word, word_at};
+use systems::Factor;
 use words::letters::copy;
 use words::product::push_signed;
-
-// The factors taken off a word: how many there are, and whether they are the whole of it.
-#[derive(Clone, Copy)]
-struct Factored {
-    count: usize,
-    whole: bool,
-}
 
 // Whether a target is a product over the words held in arrays; then that product goes into a lent buffer as a record.
 pub fn factor_target(
@@ -43,16 +35,16 @@ pub fn factor_target(
     let mut word = [0u8; 64];
     let size = load_word(target, &mut word);
     let mut list = [0u8; 64];
-    let factored = factor(&mut word, size, n, letters, lengths, &mut list);
-    let count = factored.count;
-    let member = factored.whole;
-    if member {
-        write_record(&list[0..count], &mut product[0..64]);
-    }
-    member
+    let found = factor(&mut word, size, n, letters, lengths, &mut list);
+    let Some(count) = found else {
+        return false;
+    };
+    write_record(&list[0..count], &mut product[0..64]);
+    true
 }
 
-// Takes one factor after the other off a word, at most 63, and puts their letters into a list.
+// Takes one factor after the other off a word, at most 63, puts their letters into a list, and answers how many there are where they are the
+// whole word.
 fn factor(
     word: &mut [u8],
     start: usize,
@@ -60,37 +52,31 @@ fn factor(
     letters: &[u8],
     lengths: &[usize],
     list: &mut [u8],
-) -> Factored
+) -> Option<usize>
     requires sizes { (start ≤ 63) × (length word.old ≡ 64) × (length list.old ≡ 64) }
     requires held { Held n letters.now lengths.now }
     requires freely { freely_reduce bytes (take start word.old) ≡ take start word.old }
-    ensures count { result.count ≤ 63 }
-    ensures letters { letters_in result.whole result.count list.new ≡ product_letters 63 (held n letters.now lengths.now) (take start word.old) }
+    ensures count { IfSome result (λ count. count ≤ 63) }
+    ensures letters { letters_in result list.new ≡ product_letters 63 (held n letters.now lengths.now) (take start word.old) }
 {
     let mut size = start;
     let mut count = 0;
     while size > 0 {
         if count == 63 {
-            break;
+            return None;
         }
-        let lead = leading_factor(&word[0..size], n, letters, lengths);
-        let Lead::Factor(x) = lead else {
-            break;
-        };
+        let x = leading_factor(&word[0..size], n, letters, lengths)?;
         size = take_off(word, size, n, letters, lengths, x);
         list[count] = factor_byte(x);
         count += 1;
     }
-    Factored {
-        count,
-        whole: size == 0,
-    }
+    Some(count)
 }
 
 // The letter of a factor in a product: the slot's letter for its word, the capital for the inverse.
 fn factor_byte(x: Factor) -> u8
     requires { x.slot < 16 }
-    ensures { result ≡ factor_byte (as_factor x) }
+    ensures { result ≡ factor_byte x }
 {
     let k = x.slot as u8;
     if x.inverted { 65 + k } else { 97 + k }
@@ -108,9 +94,9 @@ fn take_off(
     requires inside { (x.slot < n) × (size ≤ 63) × (length word.old ≡ 64) }
     requires held { Held n letters.now lengths.now }
     requires freely { freely_reduce bytes (take size word.old) ≡ take size word.old }
-    requires leads { leading bytes (held n letters.now lengths.now) (take size word.old) ≡ some (as_factor x) }
+    requires leads { leading bytes (held n letters.now lengths.now) (take size word.old) ≡ Some x }
     ensures size { result ≤ 63 }
-    ensures word { take result word.new ≡ freely_reduce bytes (inverse bytes (value bytes (held n letters.now lengths.now) (as_factor x)) ++ take size word.old) }
+    ensures word { take result word.new ≡ freely_reduce bytes (inverse bytes (value bytes (held n letters.now lengths.now) x) ++ take size word.old) }
 {
     let mut rest = [0u8; 128];
     let divisor = word_at(letters, lengths, x.slot);

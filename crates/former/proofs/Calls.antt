@@ -11,7 +11,6 @@ use Rattle.records.specs.Answers.{answer_of, on_fine}
 use Rattle.records.specs.Records.{record_of}
 use Rattle.records.specs.Refusals.{◌and_then◌, must, refusal, target_rules}
 use Rattle.records.specs.declared.answers.Answer.{Answer}
-use Rattle.records.specs.declared.answers.Checked.{Checked}
 use Rattle.records.specs.declared.answers.Verdict.TheVariants.{Done}
 use Rattle.slots.specs.Refusals.{system_room, system_rules, word_room}
 use Rattle.slots.specs.Systems.{bytes_of, freely_reduced_words, slots}
@@ -29,6 +28,8 @@ use Rattle.asking.specs.Asking.{ask_answer, ask_found, ask_product, asked_of, qu
 use Rattle.membership.specs.Membership.{member_answer, member_found, member_log, member_product, member_tests, member_words}
 use Rattle.former.proofs.Order.{SameUnless, former_system_rules, same_by}
 use Rattle.former.proofs.Lengths.{system-same_unless}
+use Rattle.records.specs.declared.refusals.Reason.TheVariants.{ProductBufferShort, SystemTooLong, WordTooLong}
+use Rattle.records.specs.Refusals.{Checked}
 
 -- `given` is what a call gives on a system, and `call` the same as a function of what the tests of the system find
 pub record CallSameUnless {A : Type 0} (s : List ℕ) (call : Checked → A) (given refused : A) : Type 0 where
@@ -37,7 +38,7 @@ pub record CallSameUnless {A : Type 0} (s : List ℕ) (call : Checked → A) (gi
   pub as_it_was : SameUnless 1024 (length s) given (call (former_system_rules s)) refused
 
 -- so it is with every function of what they find
-call_same_unless : {A : Type 0} (s : List ℕ) (call : Checked → A) → CallSameUnless s call (call (system_rules s)) (call (refusal 2 0))
+call_same_unless : {A : Type 0} (s : List ℕ) (call : Checked → A) → CallSameUnless s call (call (system_rules s)) (call (refusal SystemTooLong 0))
 call_same_unless s call = record { as_it_is = refl; as_it_was = same_by call 1024 (length s) (system-same_unless s) }
 
 -- tidy: its answer and its buffer
@@ -47,7 +48,7 @@ tidy_with found s buffer =
     (answer_of tests, on_fine tests (written (bytes_of (freely_reduced_words s)) buffer) buffer)
 
 pub tidy_same_unless : (s buffer : List ℕ)
-    → CallSameUnless s (λ found. tidy_with found s buffer) (tidy_answer s buffer, tidy_buffer s buffer) (answer_of (refusal 2 0), buffer)
+    → CallSameUnless s (λ found. tidy_with found s buffer) (tidy_answer s buffer, tidy_buffer s buffer) (answer_of (refusal SystemTooLong 0), buffer)
 unfolding system_room
 tidy_same_unless s buffer = call_same_unless s (λ found. tidy_with found s buffer)
 
@@ -55,7 +56,7 @@ tidy_same_unless s buffer = call_same_unless s (λ found. tidy_with found s buff
 abbrev pub test_with : Checked → List ℕ → Tested
 test_with found s = tested_of found (freely_reduced_words s)
 
-pub test_same_unless : (s : List ℕ) → CallSameUnless s (λ found. test_with found s) (test_answer s) (refused_test (refusal 2 0))
+pub test_same_unless : (s : List ℕ) → CallSameUnless s (λ found. test_with found s) (test_answer s) (refused_test (refusal SystemTooLong 0))
 test_same_unless s = call_same_unless s (λ found. test_with found s)
 
 -- reduce: its answer, the words and the log
@@ -67,7 +68,7 @@ reduce_with found s words log =
 
 pub reduce_same_unless : (s words log : List ℕ)
     → CallSameUnless s (λ found. reduce_with found s words log) (reduce_answer s words log, reduce_words s words log, reduce_log s words log)
-    (refused_reduction (refusal 2 0), words, log)
+    (refused_reduction (refusal SystemTooLong 0), words, log)
 unfolding system_room
 reduce_same_unless s words log = call_same_unless s (λ found. reduce_with found s words log)
 
@@ -78,14 +79,14 @@ ask_with found s t product =
     (asked_of tests (verdict_of (is_found (ask_found s t))), on_fine tests (product_after (ask_found s t) product) product)
 
 pub ask_same_unless : (s t product : List ℕ)
-    → CallSameUnless s (λ found. ask_with found s t product) (ask_answer s t product, ask_product s t product) (answer_of (refusal 2 0), product)
+    → CallSameUnless s (λ found. ask_with found s t product) (ask_answer s t product, ask_product s t product) (answer_of (refusal SystemTooLong 0), product)
 unfolding question_rules
 ask_same_unless s t product = call_same_unless s (λ found. ask_with found s t product)
 
 -- member: its answer, the words, the log and the product
 abbrev pub member_with : Checked → List ℕ → List ℕ → List ℕ → List ℕ → List ℕ → Reduction × List ℕ × List ℕ × List ℕ
 member_with found s t words log product =
-    let tests : Checked = found and_then target_rules t and_then word_room (slots s * 64) (length words) and_then must (leb 64 (length product)) 11 0 in
+    let tests : Checked = found and_then target_rules t and_then word_room (slots s * 64) (length words) and_then must (leb 64 (length product)) ProductBufferShort 0 in
     let S : List (List ℕ) = freely_reduced_words s in
     let product-of = member_found s t words log product in (
       reduction_of (run_tests tests S (room_for log)) (verdict_of (is_found product-of)) S (room_for log),
@@ -97,7 +98,7 @@ member_with found s t words log product =
 pub member-same_unless : (s t words log product : List ℕ)
     → CallSameUnless s (λ found. member_with found s t words log product)
     (member_answer s t words log product, member_words s t words log product, member_log s t words log product, member_product s t words log product)
-    (refused_reduction (refusal 2 0), words, log, product)
+    (refused_reduction (refusal SystemTooLong 0), words, log, product)
 unfolding member_tests
 member-same_unless s t words log product = call_same_unless s (λ found. member_with found s t words log product)
 
@@ -110,7 +111,7 @@ replay_with found s log backward buffer =
 
 pub replay_same_unless : (s log : List ℕ) (backward : Bool) (buffer : List ℕ)
     → CallSameUnless s (λ found. replay_with found s log backward buffer) (replay_answer s log backward buffer, replay_buffer s log backward buffer)
-    (answer_of (refusal 2 0), buffer)
+    (answer_of (refusal SystemTooLong 0), buffer)
 unfolding replay_rules replay_tests
 replay_same_unless s log backward buffer = call_same_unless s (λ found. replay_with found s log backward buffer)
 
@@ -118,10 +119,10 @@ replay_same_unless s log backward buffer = call_same_unless s (λ found. replay_
 abbrev pub multiply_with : Checked → List ℕ → List ℕ → List ℕ → Answer × List ℕ
 multiply_with found s p buffer =
     let tests : Checked =
-    (found and_then target_rules p and_then slot_rule (slots s) p and_then word_room 64 (length buffer)) and_then must (leb (length (product_word s p)) 63) 12 0 in
+    (found and_then target_rules p and_then slot_rule (slots s) p and_then word_room 64 (length buffer)) and_then must (leb (length (product_word s p)) 63) WordTooLong 0 in
     (answer_of tests, on_fine tests (written (record_of (product_word s p)) buffer) buffer)
 
 pub multiply_same_unless : (s p buffer : List ℕ)
-    → CallSameUnless s (λ found. multiply_with found s p buffer) (multiply_answer s p buffer, multiply_buffer s p buffer) (answer_of (refusal 2 0), buffer)
+    → CallSameUnless s (λ found. multiply_with found s p buffer) (multiply_answer s p buffer, multiply_buffer s p buffer) (answer_of (refusal SystemTooLong 0), buffer)
 unfolding multiply_rules multiply_tests
 multiply_same_unless s p buffer = call_same_unless s (λ found. multiply_with found s p buffer)

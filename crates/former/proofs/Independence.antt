@@ -5,7 +5,7 @@ use Prim.Native.Nat.{ℕ}
 use mathlib.Core.Bool.{Bool, ◌&&◌, and-false, true}
 use mathlib.Core.List.{List}
 use mathlib.Core.Logic.{inl, inr}
-use mathlib.Core.Option.{none}
+use Rattle.std.specs.Prelude.{None}
 use mathlib.Core.Path.{◌∙◌, ◌≡◌, ap, refl, sym}
 use lib.Dec.{eqb}
 use lib.ListN.{length}
@@ -21,8 +21,6 @@ use Rattle.systems.proofs.Neither.{run-freely_reduced, run_length, run-reduced}
 use Rattle.systems.proofs.Rank.{rank_full}
 use Rattle.systems.proofs.Runs.{run_apart}
 use Rattle.systems.proofs.Unique.{reduced-independent}
-use Rattle.records.specs.declared.answers.Checked.{Checked}
-use Rattle.records.specs.declared.answers.Checked.TheVariants.{Failed, Fine}
 use Rattle.records.specs.declared.answers.Verdict.{Verdict}
 use Rattle.records.specs.declared.answers.Verdict.TheVariants.{Done}
 use Rattle.records.proofs.Chains.{fine_next, must_fine}
@@ -39,17 +37,20 @@ use Rattle.membership.specs.Membership.{member_answer, member_checked, member_fo
 use Rattle.lines.specs.Lines.{lines_after}
 use Rattle.output.specs.Output.{answer_output, given_system, given_target, input_rules, program_log, program_output, program_product, program_words}
 use Rattle.former.proofs.Program.{lines_of}
+use Rattle.records.specs.declared.refusals.Reason.TheVariants.{LogBufferShort}
+use Rattle.std.specs.Prelude.{Err, Ok}
+use Rattle.records.specs.Refusals.{Checked}
 
 -- the answer of reduce and of member as it was
 abbrev pub former_reduction_of : Checked → Verdict → List (List ℕ) → ℕ → Reduction
-former_reduction_of Fine verdict S most =
+former_reduction_of (Ok tt) verdict S most =
     record {
       verdict = verdict;
       moves = length (moves_within bytes most S);
       rank = rank (run_within bytes most S);
       independent = eqb (rank (run_within bytes most S)) (rank S);
     }
-former_reduction_of (Failed f) verdict S most = refused_reduction (Failed f)
+former_reduction_of (Err f) verdict S most = refused_reduction (Err f)
 
 -- an answer that says 'independent' only where b is true
 abbrev pub independent_only_if : Bool → Reduction → Reduction
@@ -57,7 +58,7 @@ independent_only_if b r = record { verdict = r.verdict; moves = r.moves; rank = 
 
 module _ (S : List (List ℕ)) (start : FreelyReduced bytes S) (most : ℕ) where
   -- where a run comes to its end with no blank slot, no word was blank before it
-  none_blank-before : next bytes (run_within bytes most S) ≡ none → none_blank (run_within bytes most S) ≡ true → none_blank S ≡ true
+  none_blank-before : next bytes (run_within bytes most S) ≡ None → none_blank (run_within bytes most S) ≡ true → none_blank S ≡ true
   none_blank-before ended e = independent-none_blank bytes byte_laws S
       ((independent-moves bytes byte_laws S (moves_within bytes most S) start (run_apart bytes byte_laws most S start)).1
       (reduced-independent bytes byte_laws (run_within bytes most S) (run-freely_reduced bytes byte_laws most S start)
@@ -70,23 +71,23 @@ module _ (S : List (List ℕ)) (start : FreelyReduced bytes S) (most : ℕ) wher
       sym (rank_full (run_within bytes most S)) ∙ ap (eqb (rank (run_within bytes most S))) (sym full)
 
   -- the verdict is the former one and that no word was blank before the run
-  none_blank_both : next bytes (run_within bytes most S) ≡ none
+  none_blank_both : next bytes (run_within bytes most S) ≡ None
       → none_blank (run_within bytes most S) ≡ none_blank S && eqb (rank (run_within bytes most S)) (rank S)
   none_blank_both ended = elim (bool_cases (none_blank S)) [
     | inl full ↦ rw full (none_blank-same full)
     | inr blank ↦ rw blank (not_true_false _ (λ e. true_not_false (none_blank S) (none_blank-before ended e) blank))
   ]
 
-  independence_by : (c : Checked) (v : Verdict) → (c ≡ Fine → next bytes (run_within bytes most S) ≡ none)
+  independence_by : (c : Checked) (v : Verdict) → (c ≡ Ok tt → next bytes (run_within bytes most S) ≡ None)
       → reduction_of c v S most ≡ independent_only_if (none_blank S) (former_reduction_of c v S most)
-  independence_by Fine v ended =
+  independence_by (Ok tt) v ended =
       λ i. record { verdict = v; moves = length (moves_within bytes most S); rank = rank (run_within bytes most S); independent = none_blank_both (ended refl) i }
-  independence_by (Failed f) v ended = rw (and-false (none_blank S)) refl
+  independence_by (Err f) v ended = rw (and-false (none_blank S)) refl
 
   reduction_independence : (tests : Checked) (v : Verdict)
       → reduction_of (run_tests tests S most) v S most ≡ independent_only_if (none_blank S) (former_reduction_of (run_tests tests S most) v S most)
   reduction_independence tests v = independence_by (run_tests tests S most) v
-      (λ passed. stopped_none (run_within bytes most S) (must_fine (stopped (run_within bytes most S)) 13 0 (fine_next tests _ passed)))
+      (λ passed. stopped_none (run_within bytes most S) (must_fine (stopped (run_within bytes most S)) LogBufferShort 0 (fine_next tests _ passed)))
 
 -- reduce: the answer is the former one, but 'independent' only where no given word freely reduces to the empty word; what reduce writes
 -- does not depend on the verdict

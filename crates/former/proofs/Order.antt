@@ -7,17 +7,18 @@ use mathlib.Core.Path.{◌≡◌, ap}
 use lib.Dec.{eqb, leb}
 use lib.ListN.{length}
 use Rattle.records.specs.Refusals.{◌and_then◌, each_below, must}
-use Rattle.records.specs.declared.answers.Checked.{Checked}
 use Rattle.slots.specs.Refusals.{slot_rules}
 use Rattle.slots.specs.Systems.{slots}
+use Rattle.records.specs.declared.refusals.Reason.TheVariants.{SystemTooLong, SystemUneven, TargetOrProductMalformed}
+use Rattle.records.specs.Refusals.{Checked}
 
 -- the tests of a system: a multiple of 64, then at most 16 records, then the records
 abbrev pub former_system_rules : List ℕ → Checked
-former_system_rules s = must (eqb (length s % 64) 0) 1 0 and_then must (leb (slots s) 16) 2 0 and_then each_below (slot_rules s) (slots s)
+former_system_rules s = must (eqb (length s % 64) 0) SystemUneven 0 and_then must (leb (slots s) 16) SystemTooLong 0 and_then each_below (slot_rules s) (slots s)
 
 -- the tests of the length of the program's input: not 0, then a multiple of 64, then at most 1,088
 abbrev pub former_input_rules : ℕ → Checked
-former_input_rules n = must (not (eqb n 0)) 6 0 and_then must (eqb (n % 64) 0) 1 0 and_then must (leb n 1088) 2 0
+former_input_rules n = must (not (eqb n 0)) TargetOrProductMalformed 0 and_then must (eqb (n % 64) 0) SystemUneven 0 and_then must (leb n 1088) SystemTooLong 0
 
 -- longer than so many bytes, and not a multiple of 64
 abbrev pub TooLongAndUneven : ℕ → ℕ → Type 0

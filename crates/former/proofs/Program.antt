@@ -1,11 +1,10 @@
 -- The program: its output, and what it was under the former order.
+use Rattle.records.specs.declared.refusals.Reason.TheVariants.{SystemTooLong}
 use Prim.Native.Nat.{◌-◌, ℕ}
 use mathlib.Core.List.{List}
 use mathlib.Core.Path.{◌∙◌, ◌≡◌, ap, refl, sym}
 use native.Mathlib.Omega.{arith}
 use lib.ListN.{length, length-take}
-use Rattle.records.specs.declared.answers.Checked.{Checked}
-use Rattle.records.specs.declared.answers.Checked.TheVariants.{Failed, Fine}
 use Rattle.slots.specs.Refusals.{system_rules}
 use Rattle.slots.specs.Systems.{slots}
 use Rattle.reduction.specs.declared.answers.Reduction.{Reduction}
@@ -16,6 +15,8 @@ use Rattle.output.proofs.Calling.{size-most}
 use Rattle.former.proofs.Calls.{member-same_unless, member_with}
 use Rattle.former.proofs.Order.{SameUnless, former_input_rules, former_system_rules}
 use Rattle.former.proofs.Lengths.{input-same_unless}
+use Rattle.std.specs.Prelude.{Err, Ok}
+use Rattle.records.specs.Refusals.{Checked}
 
 -- the lines of what member gives, for an input
 abbrev pub lines_of : List ℕ → Reduction × List ℕ × List ℕ × List ℕ → List ℕ
@@ -32,12 +33,12 @@ pub output_as_it_is : (input : List ℕ) → program_output input ≡ output_wit
 unfolding program_output answer_output member_tests
 output_as_it_is input = refl
 
-lines_same : (checked : Checked) {given former : List ℕ} → (checked ≡ Fine → given ≡ former) → lines_after checked given ≡ lines_after checked former
-lines_same Fine same = same refl
-lines_same (Failed f) same = refl
+lines_same : (checked : Checked) {given former : List ℕ} → (checked ≡ Ok tt → given ≡ former) → lines_after checked given ≡ lines_after checked former
+lines_same (Ok _) same = same refl
+lines_same (Err f) same = refl
 
 -- where the length passes the given system has at most 1,024 bytes, and member gives what it gives under the former order
-member-same : (input : List ℕ) → input_rules (length input) ≡ Fine
+member-same : (input : List ℕ) → input_rules (length input) ≡ Ok tt
     → lines_of input (member_with (system_rules (given_system input)) (given_system input) (given_target input) program_words program_log program_product)
     ≡ lines_of input (member_with (former_system_rules (given_system input)) (given_system input) (given_target input) program_words program_log program_product)
 member-same input passed =
@@ -49,7 +50,7 @@ member-same input passed =
 -- the output is that under the former order unless the input is longer than 1,088 bytes and uneven, and there it is the line of refusal 2
 pub program_same_unless : (input : List ℕ)
     → SameUnless 1088 (length input) (program_output input)
-    (output_with (former_input_rules (length input)) (former_system_rules (given_system input)) input) (refusal_line (record { number = 2; place = 0 }))
+    (output_with (former_input_rules (length input)) (former_system_rules (given_system input)) input) (refusal_line (record { reason = SystemTooLong; place = 0 }))
 program_same_unless input =
     let order = input-same_unless (length input) in
     record {

@@ -4,7 +4,7 @@ use Prim.Native.Nat.{◌%◌, ◌+◌, ◌-◌, ◌/◌, ◌<◌, ◌≤◌, ℕ
 use mathlib.Core.Bool.{Bool, false, not, true}
 use mathlib.Core.List.{List}
 use mathlib.Core.Logic.{inl, inr}
-use mathlib.Core.Option.{none, some}
+use Rattle.std.specs.Prelude.{None, Some}
 use mathlib.Core.Path.{◌∙◌, ◌≡◌, ap, ap₂, refl, sym}
 use native.Mathlib.Numerals.{add-one}
 use native.Mathlib.Omega.{arith}
@@ -15,7 +15,7 @@ use Rattle.words.specs.Alphabet.{bytes}
 use Rattle.words.specs.Words.{common_prefix, inverse, signed}
 use Rattle.words.proofs.Alphabet.{byte_laws}
 use Rattle.words.proofs.Inverse.{inverse-length}
-use Rattle.systems.specs.Moves.{form₁, form₄}
+use Rattle.systems.specs.declared.Form.TheVariants.{Before, InverseAfter}
 use Rattle.systems.specs.Products.{word}
 use Rattle.systems.specs.Rules.{begins, elsewhere, ends, first, first_half, half_end, qualifies, second_half, shortest_below, try_half}
 use Rattle.systems.proofs.HalfEnds.{half_at_beginning, half_at_end, half_neither, half-same, half_end_chosen, half_end-first, half_end_unchosen, shortest_better, shortest_keep, shortest_skip, shortest_some, shortest_start}
@@ -152,8 +152,8 @@ module _ (letters lengths : List ℕ) (n h size : ℕ) (sized : size ≡ get_or 
 
 -- the best word so far among the slots below k: none, or the shortest that qualifies, in the lowest slot
 pub data Best (S : List (List ℕ)) (n k best least : ℕ) : Type 0 where
-  none_yet : best ≡ n → least ≡ 64 → shortest_below bytes S k ≡ none → Best S n k best least
-  one_yet : best < n → least ≡ length (word bytes S best) → shortest_below bytes S k ≡ some best → Best S n k best least
+  none_yet : best ≡ n → least ≡ 64 → shortest_below bytes S k ≡ None → Best S n k best least
+  one_yet : best < n → least ≡ length (word bytes S best) → shortest_below bytes S k ≡ Some best → Best S n k best least
 
 pub best_begin : (S : List (List ℕ)) (n : ℕ) → Best S n 0 n 64
 best_begin S n = none_yet refl refl refl
@@ -177,11 +177,11 @@ module _ (S : List (List ℕ)) (n k best least : ℕ) where
   best_taken size sized inside less t (one_yet p q d) =
       one_yet inside (sym sized) (rw add-one (shortest_better bytes byte_laws S k best t d (omega arith)))
 
-  pub best_chosen : k ≤ n → n ≤ k → Best S n k best least → best < n → shortest_below bytes S n ≡ some best
+  pub best_chosen : k ≤ n → n ≤ k → Best S n k best least → best < n → shortest_below bytes S n ≡ Some best
   best_chosen l m (none_yet p q d) h = absurd (omega arith)
   best_chosen l m (one_yet p q d) h = let z : k ≡ n = omega arith in rw z at d
 
-  pub best_unchosen : k ≤ n → n ≤ k → Best S n k best least → n ≤ best → shortest_below bytes S n ≡ none
+  pub best_unchosen : k ≤ n → n ≤ k → Best S n k best least → n ≤ best → shortest_below bytes S n ≡ None
   best_unchosen l m (none_yet p q d) h = let z : k ≡ n = omega arith in rw z at d
   best_unchosen l m (one_yet p q d) h = absurd (omega arith)
 
@@ -205,15 +205,15 @@ module _ (letters lengths : List ℕ) (n k best least best' least' size : ℕ) (
 
 -- slot h is chosen, and no slot before k ends with the second half of its word or begins with the inverse
 pub record Kept (letters lengths : List ℕ) (n h k : ℕ) : Type 0 where
-  pub chosen : shortest_below bytes (held n letters lengths) n ≡ some h
-  pub none_before : first (try_half bytes (held n letters lengths) h) k ≡ none
+  pub chosen : shortest_below bytes (held n letters lengths) n ≡ Some h
+  pub none_before : first (try_half bytes (held n letters lengths) h) k ≡ None
 
-pub kept_begin : (letters lengths : List ℕ) (n h : ℕ) → shortest_below bytes (held n letters lengths) n ≡ some h → Kept letters lengths n h 0
+pub kept_begin : (letters lengths : List ℕ) (n h : ℕ) → shortest_below bytes (held n letters lengths) n ≡ Some h → Kept letters lengths n h 0
 kept_begin letters lengths n h e = record { chosen = e; none_before = refl }
 
 module _ (letters lengths : List ℕ) (n h k : ℕ) (kept : Kept letters lengths n h k) where
   -- the search as the rules have it, to the end of the system
-  chosen_whole : shortest_below bytes (held n letters lengths) (length (held n letters lengths)) ≡ some h
+  chosen_whole : shortest_below bytes (held n letters lengths) (length (held n letters lengths)) ≡ Some h
   chosen_whole = rw (held-length n letters lengths) kept.chosen
 
   -- a chosen word qualifies, so its length is even
@@ -222,7 +222,7 @@ module _ (letters lengths : List ℕ) (n h k : ℕ) (kept : Kept letters lengths
       let S : List (List ℕ) = held n letters lengths in
       (qualifies_qualified bytes byte_laws S h (shortest_some bytes byte_laws S n h kept.chosen).chosen).even
 
-  kept_more : try_half bytes (held n letters lengths) h k ≡ none → Kept letters lengths n h (k + 1)
+  kept_more : try_half bytes (held n letters lengths) h k ≡ None → Kept letters lengths n h (k + 1)
   kept_more e =
       record {
         chosen = kept.chosen;
@@ -232,7 +232,7 @@ module _ (letters lengths : List ℕ) (n h k : ℕ) (kept : Kept letters lengths
   pub kept_own : k ≡ h → Kept letters lengths n h (k + 1)
   kept_own e = kept_more (half-same bytes byte_laws (held n letters lengths) h k e)
 
-  pub kept_end : k ≤ n → n ≤ k → none ≡ half_end bytes (held n letters lengths)
+  pub kept_end : k ≤ n → n ≤ k → None ≡ half_end bytes (held n letters lengths)
   kept_end l m =
       let z : k ≡ length (held n letters lengths) = omega (arith, held-length n letters lengths) in
       sym (half_end_chosen bytes byte_laws (held n letters lengths) h chosen_whole ∙ (rw z at kept.none_before))
@@ -260,10 +260,10 @@ module _ (letters lengths : List ℕ) (n h k : ℕ) (kept : Kept letters lengths
         ∙ half_test changed-inverse _ back counted (yours ∙ inverse-word k k_inside)
 
     pub kept_at_end : (k ≡ h → ⊥) → length other-inverse / 2 ≤ back
-        → some (record { changed = k; form = form₄; other = h }) ≡ half_end bytes (held n letters lengths)
+        → Some (record { changed = k; form = InverseAfter; other = h }) ≡ half_end bytes (held n letters lengths)
     kept_at_end apart reached =
         let S : List (List ℕ) = held n letters lengths in
-        sym (half_end-first bytes byte_laws S h k (record { changed = k; form = form₄; other = h }) chosen_whole
+        sym (half_end-first bytes byte_laws S h k (record { changed = k; form = InverseAfter; other = h }) chosen_whole
         (rw (held-length n letters lengths) k_inside) kept.none_before
         (half_at_end bytes byte_laws S h k apart (back_test ∙ le-leb (length other-inverse / 2) back reached)))
 
@@ -279,10 +279,10 @@ module _ (letters lengths : List ℕ) (n h k : ℕ) (kept : Kept letters lengths
           ∙ half_test changed _ front met (here ∙ sym (held_word_lem n k letters lengths k_inside))
 
       pub kept_at_beginning : (k ≡ h → ⊥) → length other-inverse / 2 ≤ front
-          → some (record { changed = k; form = form₁; other = h }) ≡ half_end bytes (held n letters lengths)
+          → Some (record { changed = k; form = Before; other = h }) ≡ half_end bytes (held n letters lengths)
       kept_at_beginning apart reached =
           let S : List (List ℕ) = held n letters lengths in
-          sym (half_end-first bytes byte_laws S h k (record { changed = k; form = form₁; other = h }) chosen_whole
+          sym (half_end-first bytes byte_laws S h k (record { changed = k; form = Before; other = h }) chosen_whole
           (rw (held-length n letters lengths) k_inside) kept.none_before
           (half_at_beginning bytes byte_laws S h k apart (back_test ∙ lt-leb (length other-inverse / 2) back short)
           (front_test ∙ le-leb (length other-inverse / 2) front reached)))
@@ -294,11 +294,11 @@ module _ (letters lengths : List ℕ) (n h k : ℕ) (kept : Kept letters lengths
           (front_test ∙ lt-leb (length other-inverse / 2) front less))
 
 -- no word qualifies, so there is no half-end move
-pub none_chosen : (letters lengths : List ℕ) (n h : ℕ) → (n ≤ h → shortest_below bytes (held n letters lengths) n ≡ none) → n ≤ h
-    → none ≡ half_end bytes (held n letters lengths)
+pub none_chosen : (letters lengths : List ℕ) (n h : ℕ) → (n ≤ h → shortest_below bytes (held n letters lengths) n ≡ None) → n ≤ h
+    → None ≡ half_end bytes (held n letters lengths)
 none_chosen letters lengths n h unchosen l =
     sym (half_end_unchosen bytes byte_laws (held n letters lengths) (rw (held-length n letters lengths) (unchosen l)))
 
-pub some_chosen : (letters lengths : List ℕ) (n h : ℕ) → (h < n → shortest_below bytes (held n letters lengths) n ≡ some h) → h < n
-    → shortest_below bytes (held n letters lengths) n ≡ some h
+pub some_chosen : (letters lengths : List ℕ) (n h : ℕ) → (h < n → shortest_below bytes (held n letters lengths) n ≡ Some h) → h < n
+    → shortest_below bytes (held n letters lengths) n ≡ Some h
 some_chosen letters lengths n h chosen l = chosen l

@@ -3,18 +3,17 @@
 #![tactic(auto)]
 
 ghost use Rattle.std.specs.Prelude.{◌<◌, ◌≤◌, ◌≡◌, leb, get_or, length};
-ghost use Rattle.std.proofs.Math.Option.{none, some};
 ghost use Rattle.words.specs.Alphabet.{bytes};
 ghost use Rattle.words.specs.Words.{common_prefix};
 ghost use Rattle.systems.specs.Rules.{half_end, qualifies, shortest_below};
 ghost use Rattle.slots.specs.Held.{Held, Short, held, held_word};
 ghost use Rattle.inverses.specs.Inverses.{Inverted};
-ghost use Rattle.moves.specs.Found.{FoundBelow, found_move};
+ghost use Rattle.moves.specs.Found.{FoundBelow};
 ghost use Rattle.half_ends.specs.HalfEnds.{half_elsewhere, meets_half};
 
-use moves::found::{Found, Move};
 use records::record::RECORD;
 use slots::held::{length_of, letter_pair, word_at};
+use systems::{Form, Move};
 use words::cancel::common_prefix;
 
 // Whether two slots' words, each in an array of words or of inverses, have at least so many letters in common at their beginnings. Where
@@ -122,8 +121,8 @@ fn does_qualify(letters: &[u8], inverses: &[u8], lengths: &[usize], n: usize, h:
 fn shortest_slot(letters: &[u8], inverses: &[u8], lengths: &[usize], n: usize) -> usize
     requires held { Held n letters.now lengths.now }
     requires inverted { Inverted n letters.now inverses.now lengths.now }
-    ensures chosen { result < n → shortest_below bytes (held n letters.now lengths.now) n ≡ some result }
-    ensures unchosen { n ≤ result → shortest_below bytes (held n letters.now lengths.now) n ≡ none }
+    ensures chosen { result < n → shortest_below bytes (held n letters.now lengths.now) n ≡ Some result }
+    ensures unchosen { n ≤ result → shortest_below bytes (held n letters.now lengths.now) n ≡ None }
 {
     let mut best = n;
     let mut least = RECORD;
@@ -144,12 +143,18 @@ fn shortest_slot(letters: &[u8], inverses: &[u8], lengths: &[usize], n: usize) -
 
 // The half-end move by slot h: the first other slot whose word ends with the second half of h's word (form 4), or else begins with its
 // inverse (form 1).
-fn half_end_by(letters: &[u8], inverses: &[u8], lengths: &[usize], n: usize, h: usize) -> Found
+fn half_end_by(
+    letters: &[u8],
+    inverses: &[u8],
+    lengths: &[usize],
+    n: usize,
+    h: usize,
+) -> Option<Move>
     requires inside { h < n }
     requires held { Held n letters.now lengths.now }
     requires inverted { Inverted n letters.now inverses.now lengths.now }
-    requires shortest { shortest_below bytes (held n letters.now lengths.now) n ≡ some h }
-    ensures found { found_move result ≡ half_end bytes (held n letters.now lengths.now) }
+    requires shortest { shortest_below bytes (held n letters.now lengths.now) n ≡ Some h }
+    ensures found { result ≡ half_end bytes (held n letters.now lengths.now) }
     ensures below { FoundBelow n result }
 {
     let other_inverse = word_at(inverses, lengths, h);
@@ -160,37 +165,37 @@ fn half_end_by(letters: &[u8], inverses: &[u8], lengths: &[usize], n: usize, h: 
             let changed_inverse = word_at(inverses, lengths, k);
             let back = common_prefix(other_inverse, changed_inverse);
             if half <= back {
-                return Found::Move(Move {
+                return Some(Move {
                     changed: k,
-                    form: 3,
+                    form: Form::InverseAfter,
                     other: h,
                 });
             }
             let changed = word_at(letters, lengths, k);
             let front = common_prefix(other_inverse, changed);
             if half <= front {
-                return Found::Move(Move {
+                return Some(Move {
                     changed: k,
-                    form: 0,
+                    form: Form::Before,
                     other: h,
                 });
             }
         }
         k += 1;
     }
-    Found::Nothing
+    None
 }
 
 // The half-end move: the shortest qualifying word's second half is taken off the first word that ends with it, or begins with its inverse.
-pub fn find_half_end(letters: &[u8], inverses: &[u8], lengths: &[usize], n: usize) -> Found
+pub fn find_half_end(letters: &[u8], inverses: &[u8], lengths: &[usize], n: usize) -> Option<Move>
     requires held { Held n letters.now lengths.now }
     requires inverted { Inverted n letters.now inverses.now lengths.now }
-    ensures found { found_move result ≡ half_end bytes (held n letters.now lengths.now) }
+    ensures found { result ≡ half_end bytes (held n letters.now lengths.now) }
     ensures below { FoundBelow n result }
 {
     let h = shortest_slot(letters, inverses, lengths, n);
     if h >= n {
-        return Found::Nothing;
+        return None;
     }
     half_end_by(letters, inverses, lengths, n, h)
 }

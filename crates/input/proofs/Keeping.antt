@@ -80,8 +80,8 @@ take_min m l =
 module _ (next kept : List ℕ) (size : ℕ) where
   pub kept_full : (room : ℕ) → room ≡ min 1088 (length kept) → room ≤ size → kept ≡ kept_after next kept size
   kept_full room r h =
-      let none : min 1088 (length kept) - size ≡ 0 = omega arith in
-      rw none (sym (take-append-drop size kept))
+      let None : min 1088 (length kept) - size ≡ 0 = omega arith in
+      rw None (sym (take-append-drop size kept))
 
   -- a byte that came before stays, and the next ones are kept up to byte 1,088 and as far as there is room
   kept_before : (i : ℕ) → i < size → i < length kept → get_or (kept_after next kept size) i 0 ≡ get_or kept i 0

@@ -3,7 +3,7 @@
 use Prim.Native.Nat.{◌%◌, ◌*◌, ◌+◌, ◌/◌, ◌<◌, ◌≤◌, ℕ}
 use mathlib.Core.Bool.{Bool, not-not, ◌&&◌, ◌||◌, false, not, true}
 use mathlib.Core.List.{List}
-use mathlib.Core.Option.{none, some}
+use Rattle.std.specs.Prelude.{None, Option, Some}
 use mathlib.Core.Path.{◌∙◌, ◌≡◌, ap, ap₂, refl, sym}
 use native.Mathlib.Omega.{arith}
 use lib.Dec.{eqb, leb, ltb}
@@ -15,15 +15,13 @@ use Rattle.words.proofs.Alphabet.{byte_laws}
 use Rattle.words.proofs.Inverse.{signed-length}
 use Rattle.systems.specs.Factoring.{big_end, either_of, ends_other, leading}
 use Rattle.systems.specs.Products.{word}
+use Rattle.systems.specs.declared.Factor.{Factor}
 use Rattle.systems.specs.Rules.{ends, first, second_half}
 use Rattle.systems.proofs.Halves.{begins-signed, ends-signed}
 use Rattle.systems.proofs.Searching.{any_found, any_more-one, first_found, first-more-one}
 use Rattle.slots.specs.Held.{held, held_word}
 use Rattle.slots.proofs.Holding.{held-length, held_word_lem}
-use Rattle.leading.specs.Leads.{ends_apart, ends_elsewhere, lead_below, lead_factor, leads}
-use Rattle.leading.specs.declared.Factor.{Factor as CodeFactor}
-use Rattle.leading.specs.declared.Lead.{Lead}
-use Rattle.leading.specs.declared.Lead.TheVariants.{Nothing, Factor as LeadFactor}
+use Rattle.leading.specs.Leads.{ends_apart, ends_elsewhere, lead_below, leads}
 
 -- a factor of slot j other than that of slot k ends with the second half of that, by the counts
 ends-counted : (b c : Bool) (u v : List ℕ) (r : ℕ) → length u % 2 ≡ 0 → r ≡ common_prefix bytes (signed bytes (not b) u) (signed bytes (not c) v)
@@ -152,43 +150,43 @@ whole_even letters lengths whole k mine even = rw (← mine) even
 
 -- the loop over the slots
 module _ (half : Bool) (letters lengths w : List ℕ) (n : ℕ) where
-  pub leads_begin : lead_below half 0 (held n letters lengths) w ≡ none
+  pub leads_begin : lead_below half 0 (held n letters lengths) w ≡ None
   unfolding lead_below
   leads_begin = refl
 
-  module _ (k : ℕ) (before : lead_below half k (held n letters lengths) w ≡ none) where
-    pub leads_end : k ≤ n → n ≤ k → none ≡ lead_below half n (held n letters lengths) w
+  module _ (k : ℕ) (before : lead_below half k (held n letters lengths) w ≡ None) where
+    pub leads_end : k ≤ n → n ≤ k → None ≡ lead_below half n (held n letters lengths) w
     leads_end l m = let z : k ≡ n = omega arith in sym (rw z at before)
 
     module _ (plain : Bool) (told : plain ≡ leads half (held n letters lengths) w (record { slot = k; inverted = false })) where
-      pub leads-plain : k < n → plain ≡ true → some (record { slot = k; inverted = false }) ≡ lead_below half n (held n letters lengths) w
+      pub leads-plain : k < n → plain ≡ true → Some (record { slot = k; inverted = false }) ≡ lead_below half n (held n letters lengths) w
       unfolding lead_below
       leads-plain inside e =
           sym (first_found (either_of bytes (leads half (held n letters lengths) w)) k n _ inside before (rw (sym told ∙ e)))
 
       module _ (missed : plain ≡ false) (inverted : Bool)
           (told₂ : inverted ≡ leads half (held n letters lengths) w (record { slot = k; inverted = true })) where
-        pub leads-inverted : k < n → inverted ≡ true → some (record { slot = k; inverted = true }) ≡ lead_below half n (held n letters lengths) w
+        pub leads-inverted : k < n → inverted ≡ true → Some (record { slot = k; inverted = true }) ≡ lead_below half n (held n letters lengths) w
         unfolding lead_below
         leads-inverted inside e =
             sym (first_found (either_of bytes (leads half (held n letters lengths) w)) k n _ inside before (rw (sym told ∙ missed, sym told₂ ∙ e)))
 
-        pub leads_turn : inverted ≡ false → lead_below half (k + 1) (held n letters lengths) w ≡ none
+        pub leads_turn : inverted ≡ false → lead_below half (k + 1) (held n letters lengths) w ≡ None
         unfolding lead_below
         leads_turn e =
             first-more-one (either_of bytes (leads half (held n letters lengths) w)) k before (rw (sym told ∙ missed, sym told₂ ∙ e))
 
 -- the leading factor: a big end, or else a half start
-module _ (letters lengths w : List ℕ) (n : ℕ) (big : Lead) (told : lead_factor big ≡ lead_below false n (held n letters lengths) w) where
-  big_first : first (either_of bytes (big_end bytes (held n letters lengths) w)) (length (held n letters lengths)) ≡ lead_factor big
+module _ (letters lengths w : List ℕ) (n : ℕ) (big : Option Factor) (told : big ≡ lead_below false n (held n letters lengths) w) where
+  big_first : first (either_of bytes (big_end bytes (held n letters lengths) w)) (length (held n letters lengths)) ≡ big
   unfolding lead_below leads
   big_first = rw (held-length n letters lengths) (sym told)
 
-  pub leading_big : {x : CodeFactor} → big ≡ LeadFactor x → lead_factor big ≡ leading bytes (held n letters lengths) w
+  pub leading_big : {x : Factor} → big ≡ Some x → big ≡ leading bytes (held n letters lengths) w
   unfolding leading
   leading_big e = rw (big_first, e, leading)
 
-  pub leading-half : (half : Lead) → big ≡ Nothing → lead_factor half ≡ lead_below true n (held n letters lengths) w
-      → lead_factor half ≡ leading bytes (held n letters lengths) w
+  pub leading-half : (half : Option Factor) → big ≡ None → half ≡ lead_below true n (held n letters lengths) w
+      → half ≡ leading bytes (held n letters lengths) w
   unfolding leading lead_below leads
   leading-half half e d = rw (big_first, e, leading, held-length n letters lengths) d

@@ -1,29 +1,16 @@
 -- What the search for a leading factor tests and finds, over words held in slots.
 -- No public contract speaks of these.
 use Rattle.std.specs.Prelude.{◌<◌, ℕ, Bool, ◌&&◌, ◌||◌, cond, not, List, eqb}
-use Rattle.std.proofs.Math.Option.{Option, none, some}
+use Rattle.std.specs.Prelude.{IfSome, Option}
 use Rattle.words.specs.Alphabet.{bytes}
 use Rattle.words.specs.Words.{signed}
 use Rattle.systems.specs.Factoring.{big_end, either_of, ends_other, half_start}
-use Rattle.systems.specs.Products.{Factor}
+use Rattle.systems.specs.declared.Factor.{Factor}
 use Rattle.systems.specs.Rules.{any_below, ends, first, second_half}
-use Rattle.leading.specs.declared.Lead.{Lead}
-use Rattle.leading.specs.declared.Lead.TheVariants.{Nothing, Factor as LeadFactor}
-use Rattle.leading.specs.declared.Factor.{Factor as CodeFactor}
-
--- a factor of the functions, as one of the definitions
-abbrev pub as_factor : CodeFactor → Factor
-as_factor x = record { slot = x.slot; inverted = x.inverted }
-
--- the factor found, or none
-abbrev pub lead_factor : Lead → Option Factor
-lead_factor Nothing = none
-lead_factor (LeadFactor x) = some (as_factor x)
 
 -- a factor found is one of the first n slots
-abbrev pub LeadBelow : ℕ → Lead → Type 0
-LeadBelow n Nothing = Unit
-LeadBelow n (LeadFactor x) = x.slot < n
+abbrev pub LeadBelow : ℕ → Option Factor → Type 0
+LeadBelow n r = IfSome r (λ x. x.slot < n)
 
 -- a factor leads the word w as a half start, or as a big end
 unfoldable pub leads : Bool → List (List ℕ) → List ℕ → Factor → Bool

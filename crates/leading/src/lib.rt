@@ -5,63 +5,50 @@ ghost use Rattle.std.specs.Prelude.{◌%◌, ◌<◌, ◌≡◌, length};
 ghost use Rattle.words.specs.Alphabet.{bytes};
 ghost use Rattle.systems.specs.Factoring.{leading};
 ghost use Rattle.slots.specs.Held.{Held, held, held_word};
-ghost use Rattle.leading.specs.Leads.{LeadBelow, ends_apart, ends_elsewhere, lead_below, lead_factor, leads};
+ghost use Rattle.leading.specs.Leads.{LeadBelow, ends_apart, ends_elsewhere, lead_below, leads};
 
 use slots::held::word_at;
+use systems::Factor;
 use words::cancel::common_prefix_signed;
 
-// A factor: the word of a slot, or its inverse.
-#[derive(Clone, Copy)]
-pub struct Factor {
-    pub slot: usize,
-    pub inverted: bool,
-}
-
-// What leads a word.
-#[derive(Clone, Copy)]
-pub enum Lead {
-    Factor(Factor),
-    Nothing,
-}
-
 // The factor with which a word begins: the first big end, or else the first half start.
-pub fn leading_factor(word: &[u8], n: usize, letters: &[u8], lengths: &[usize]) -> Lead
+pub fn leading_factor(word: &[u8], n: usize, letters: &[u8], lengths: &[usize]) -> Option<Factor>
     requires { Held n letters.now lengths.now }
-    ensures found { lead_factor result ≡ leading bytes (held n letters.now lengths.now) word.now }
+    ensures found { result ≡ leading bytes (held n letters.now lengths.now) word.now }
     ensures below { LeadBelow n result }
 {
     let big = find_lead(false, word, n, letters, lengths);
-    let Lead::Nothing = big else {
+    let None = big else {
         return big;
     };
     find_lead(true, word, n, letters, lengths)
 }
 
 // The first factor that leads a word as a half start, or as a big end.
-fn find_lead(half: bool, word: &[u8], n: usize, letters: &[u8], lengths: &[usize]) -> Lead
+fn find_lead(half: bool, word: &[u8], n: usize, letters: &[u8], lengths: &[usize]) -> Option<Factor>
     requires { Held n letters.now lengths.now }
-    ensures found { lead_factor result ≡ lead_below half n (held n letters.now lengths.now) word.now }
+    ensures found { result ≡ lead_below half n (held n letters.now lengths.now) word.now }
     ensures below { LeadBelow n result }
 {
     let mut k = 0;
     while k < n {
         let plain = does_lead(half, false, word, n, letters, lengths, k);
         if plain {
-            return Lead::Factor(Factor {
+            return Some(Factor {
                 slot: k,
                 inverted: false,
             });
         }
         let inverted = does_lead(half, true, word, n, letters, lengths, k);
         if inverted {
-            return Lead::Factor(Factor {
+            return Some(Factor {
                 slot: k,
                 inverted: true,
             });
         }
         k += 1;
     }
-    Lead::Nothing
+    None
 }
 
 // Whether a factor of slot k leads a word. A big end: more than half of it begins the word. A half start: its first half begins the word,

@@ -14,7 +14,6 @@ use mir.Val.{Fits}
 use Rattle.io.specs.Digits.{IsDigitCount, last_digits}
 use Rattle.words.specs.Buffers.{written, written_at}
 use Rattle.words.proofs.Buffers.{front_part, written_next}
-use Rattle.records.specs.declared.answers.Checked.TheVariants.{Failed}
 use Rattle.records.specs.declared.answers.Refusal.{Refusal}
 use Rattle.records.specs.declared.answers.Verdict.{Verdict}
 use Rattle.records.specs.declared.answers.Verdict.TheVariants.{Refused}
@@ -22,6 +21,7 @@ use Rattle.systems.proofs.Logic.{bool_cases}
 use Rattle.reduction.specs.declared.answers.Reduction.{Reduction}
 use Rattle.lines.specs.Lines.{first_line, is_member, line_feed, named, refusal_in}
 use Rattle.lines.specs.Text.{decimal, digits_within, yes_or_no}
+use Rattle.std.specs.Prelude.{Err}
 
 -- a name and a value
 pub pair_written : (name value out : List ℕ) (at : ℕ) {end : ℕ} {out₁ out₂ : List ℕ} → out₁ ≡ written_at at name out → end ≡ at + length name
@@ -122,7 +122,7 @@ pub end_next : (a b : List ℕ) (at : ℕ) {end end₁ : ℕ} → end ≡ at + l
 end_next a b at e h = omega (arith, length-append a b)
 
 -- the refusal that a verdict carries
-pub refused_in : {v : Verdict} (f : Refusal) → v ≡ Refused f → Failed f ≡ refusal_in v
+pub refused_in : {v : Verdict} (f : Refusal) → v ≡ Refused f → Err f ≡ refusal_in v
 refused_in f e = rw e refl
 
 -- the first line

@@ -1,14 +1,15 @@
 -- The lines that the program prints.
 use Rattle.std.specs.Prelude.{◌*◌, ℕ, Bool, cond, false, true, List, [], ◌++◌, ◌∷◌, take}
 use Prim.Native.String.{String}
-use Rattle.records.specs.declared.answers.Checked.{Checked}
-use Rattle.records.specs.declared.answers.Checked.TheVariants.{Failed, Fine}
 use Rattle.records.specs.declared.answers.Refusal.{Refusal}
 use Rattle.records.specs.declared.answers.Verdict.{Verdict}
 use Rattle.records.specs.declared.answers.Verdict.TheVariants.{Done, Member, NotMember, Refused}
 use Rattle.moves.specs.Logs.{move_size}
 use Rattle.reduction.specs.declared.answers.Reduction.{Reduction}
 use Rattle.lines.specs.Text.{bytes_in, decimal, yes_or_no}
+use Rattle.std.specs.Prelude.{Err, Ok}
+use Rattle.records.specs.Refusals.{Checked}
+use Rattle.records.specs.Reasons.{number_of}
 
 -- a value with its name before it
 abbrev pub named : String → List ℕ → List ℕ
@@ -19,14 +20,14 @@ line_feed = 10 ∷ []
 
 -- "On a refusal it prints one line only, as `refused 1 at 0` (the number, then the place)."
 unfoldable pub refusal_line : Refusal → List ℕ
-refusal_line f = named "refused " (decimal f.number) ++ named " at " (decimal f.place) ++ line_feed
+refusal_line f = named "refused " (decimal (number_of f.reason)) ++ named " at " (decimal f.place) ++ line_feed
 
 -- the refusal that a verdict carries
 abbrev pub refusal_in : Verdict → Checked
-refusal_in Done = Fine
-refusal_in Member = Fine
-refusal_in NotMember = Fine
-refusal_in (Refused f) = Failed f
+refusal_in Done = Ok tt
+refusal_in Member = Ok tt
+refusal_in NotMember = Ok tt
+refusal_in (Refused f) = Err f
 
 -- "whether the target is a member"; 'done' is never member's verdict
 abbrev pub is_member : Verdict → Bool
@@ -51,5 +52,5 @@ answer_lines n answer words log product =
 
 -- "On a refusal it prints one line only .. Otherwise it prints" what a test or an answer that refuses nothing leads to
 abbrev pub lines_after : Checked → List ℕ → List ℕ
-lines_after Fine lines = lines
-lines_after (Failed f) lines = refusal_line f
+lines_after (Ok _) lines = lines
+lines_after (Err f) lines = refusal_line f

@@ -6,7 +6,7 @@ ghost use Rattle.words.specs.Buffers.{written, written_at};
 ghost use Rattle.lines.specs.Lines.{first_line, is_member, refusal_in, refusal_line};
 ghost use Rattle.lines.specs.Text.{decimal, yes_or_no};
 
-use records::answers::{Checked, Refusal, Verdict};
+use records::answers::{Refusal, Verdict};
 use reduction::answers::Reduction;
 use words::letters::copy_at;
 
@@ -36,7 +36,7 @@ pub fn refusal_line(refusal: Refusal, line: &mut [u8]) -> usize
     ensures size { result ≡ length (refusal_line refusal) }
     ensures most { result ≤ 80 }
 {
-    let first = put_named_number(b"refused ", refusal.number as usize, line, 0);
+    let first = put_named_number(b"refused ", usize::from(refusal.number()), line, 0);
     let second = put_named_number(b" at ", refusal.place, line, first);
     put(b"\n", line, second)
 }
@@ -54,14 +54,14 @@ pub fn is_member(verdict: Verdict) -> bool
 }
 
 // The refusal that a verdict carries.
-pub fn refusal_in(verdict: Verdict) -> Checked
+pub fn refusal_in(verdict: Verdict) -> Result<(), Refusal>
     ensures { result ≡ refusal_in verdict }
 {
     match verdict {
-        Verdict::Done => Checked::Fine,
-        Verdict::Member => Checked::Fine,
-        Verdict::NotMember => Checked::Fine,
-        Verdict::Refused(refusal) => Checked::Failed(refusal),
+        Verdict::Done => Ok(()),
+        Verdict::Member => Ok(()),
+        Verdict::NotMember => Ok(()),
+        Verdict::Refused(refusal) => Err(refusal),
     }
 }
 

@@ -3,7 +3,7 @@ use Prim.Native.Nat.{ℕ, zero, suc, ◌+◌, ◌*◌, ◌≤◌, ◌<◌}
 use mathlib.Core.Path.{◌≡◌, refl, sym, ap, ap₂, ◌∙◌}
 use mathlib.Core.Bool.{Bool, true, false, cond, not, true≢false}
 use mathlib.Core.Logic.{◌⊎◌, inl, inr}
-use mathlib.Core.Option.{Option, none, some}
+use Rattle.std.specs.Prelude.{None, Option, Some}
 use mathlib.Core.List.{List, []}
 use native.Mathlib.Omega.{arith}
 use native.Mathlib.Decide.{dec_lt, ℕ_discrete}
@@ -15,7 +15,8 @@ use Rattle.words.specs.Alphabet.{bytes}
 use Rattle.words.specs.Words.{freely_reduce}
 use Rattle.words.proofs.Alphabet.{byte_laws}
 use Rattle.systems.specs.Products.{word}
-use Rattle.systems.specs.Moves.{Move, formed, made}
+use Rattle.systems.specs.Moves.{formed, made}
+use Rattle.systems.specs.declared.Move.{Move}
 use Rattle.systems.specs.Rules.{first, form_at, try_form, try_other, try_changed, shortening, next}
 use Rattle.systems.proofs.Logic.{unless_some}
 use Rattle.systems.proofs.Searching.{first-each, first_some}
@@ -74,8 +75,8 @@ set_all c v j marks₀ marks full here k i hk hi = elim (here k i hk hi) [
 -- which forms shorten slot k by slot i depends on the two words alone
 try_words : ℕ → ℕ → List ℕ → List ℕ → Option Move
 try_words k i wk wi =
-    cond (eqb i k) none
-    (first (λ j. cond (ltb (length (freely_reduce bytes (formed bytes (form_at j) wi wk))) (length wk)) (some (record { changed = k; form = form_at j; other = i })) none) 4)
+    cond (eqb i k) None
+    (first (λ j. cond (ltb (length (freely_reduce bytes (formed bytes (form_at j) wi wk))) (length wk)) (Some (record { changed = k; form = form_at j; other = i })) None) 4)
 
 other-same-words : (S T : List (List ℕ)) (k i : ℕ) → word bytes S k ≡ word bytes T k → word bytes S i ≡ word bytes T i
     → try_other bytes S k i ≡ try_other bytes T k i
@@ -94,7 +95,7 @@ marked_made n S m marks marks' few marked gone k i hk hi h = elim (gone k i (ome
 
 -- pairs with a slot are marked that neither shortens another nor is shortened
 pub marked_blank : (n c v : ℕ) (S : List (List ℕ)) (marks marks' : List ℕ) → n ≤ 16 → Marked n S marks → PairsSet c v marks marks'
-    → ((k i : ℕ) → (k ≡ c) ⊎ (i ≡ c) → try_other bytes S k i ≡ none) → Marked n S marks'
+    → ((k i : ℕ) → (k ≡ c) ⊎ (i ≡ c) → try_other bytes S k i ≡ None) → Marked n S marks'
 marked_blank n c v S marks marks' few marked blank fails k i hk hi h = elim (blank k i (omega arith) (omega arith)) [
   | inl set ↦ fails k i set.0
   | inr kept ↦ marked k i hk hi (λ z. h (kept.2 ∙ z))
@@ -124,22 +125,22 @@ module _ (marks : List ℕ) (k i : ℕ) (both : Bool) (hk : k < 16) (hi : i < 16
 
 -- marks added for pairs that were tried and failed
 pub marked_more : (n : ℕ) (S : List (List ℕ)) (pair : ℕ → ℕ → Type 0) (marks marks' : List ℕ) → n ≤ 16 → Marked n S marks
-    → Added pair marks marks' → ((k i : ℕ) → k < n → i < n → pair k i → try_other bytes S k i ≡ none) → Marked n S marks'
+    → Added pair marks marks' → ((k i : ℕ) → k < n → i < n → pair k i → try_other bytes S k i ≡ None) → Marked n S marks'
 marked_more n S pair marks marks' few marked added fails k i hk hi h = elim (added k i (omega arith) (omega arith) h) [
   | inl p ↦ fails k i hk hi p
   | inr old ↦ marked k i hk hi old
 ]
 
 -- a move found for slot k changes slot k
-other-changed : (S : List (List ℕ)) (k i : ℕ) (m : Move) → try_other bytes S k i ≡ some m → m.changed ≡ k
+other-changed : (S : List (List ℕ)) (k i : ℕ) (m : Move) → try_other bytes S k i ≡ Some m → m.changed ≡ k
 other-changed S k i m e =
     let apart = unless_some (eqb i k) (first (λ j. try_form bytes S k i (form_at j)) 4) m e in
     let at_j = first_some (λ (j : ℕ). try_form bytes S k i (form_at j)) 4 m apart.1 in
     ap (λ (m : Move). m.changed) (try_found bytes byte_laws S k i (form_at at_j.0) m at_j.2).1
 
 -- no slot before that of the next move is shortened
-next-before : (S : List (List ℕ)) (m : Move) → m.changed < length S → next bytes S ≡ some m → (k i : ℕ) → k < m.changed → i < length S
-    → try_other bytes S k i ≡ none
+next-before : (S : List (List ℕ)) (m : Move) → m.changed < length S → next bytes S ≡ Some m → (k i : ℕ) → k < m.changed → i < length S
+    → try_other bytes S k i ≡ None
 unfolding shortening
 next-before S m inside e k i h l = first-each (try_other bytes S k) (length S) (elim (next_from bytes S m e) [
   | inl d ↦
@@ -150,7 +151,7 @@ next-before S m inside e k i h l = first-each (try_other bytes S k) (length S) (
 ]) i l
 
 -- after the next move, the slots before its changed slot are shortened by that one alone
-pub settled_made : (n : ℕ) (S T : List (List ℕ)) (m : Move) → length S ≡ n → m.changed < n → next bytes S ≡ some m
+pub settled_made : (n : ℕ) (S T : List (List ℕ)) (m : Move) → length S ≡ n → m.changed < n → next bytes S ≡ Some m
     → T ≡ made bytes S m → Settled n T m.changed
 settled_made n S T m few inside e t k i h l apart =
     rw t (other-same-words (made bytes S m) S k i (made_others bytes S m k (omega arith)) (made_others bytes S m i apart)

@@ -1,13 +1,13 @@
 -- Which pairs of slots need not be tried again. No public contract speaks of these.
 use Rattle.std.specs.Prelude.{◌*◌, ◌+◌, ◌<◌, ◌≤◌, ℕ, List, ◌⊎◌, ◌≡◌, get_or}
-use Rattle.std.proofs.Math.Option.{none}
+use Rattle.std.specs.Prelude.{None}
 use Rattle.words.specs.Alphabet.{bytes}
 use Rattle.systems.specs.Rules.{try_other}
 use Rattle.marks.specs.declared.Slots.{Slots}
 
 -- a table of pairs, k's with i at place 16 k + i: where a pair is marked, slot i shortens slot k by no form
 abbrev pub Marked : ℕ → List (List ℕ) → List ℕ → Type 0
-Marked n S marks = (k i : ℕ) → k < n → i < n → (get_or marks (k * 16 + i) 0 ≡ 0 → ⊥) → try_other bytes S k i ≡ none
+Marked n S marks = (k i : ℕ) → k < n → i < n → (get_or marks (k * 16 + i) 0 ≡ 0 → ⊥) → try_other bytes S k i ≡ None
 
 -- a table after all pairs with slot c, either way round, were set to v: the others stay
 abbrev pub PairsSet : ℕ → ℕ → List ℕ → List ℕ → Type 0
@@ -23,7 +23,7 @@ Added pair marks marks' =
 
 -- after a move that changed slot c, no slot before c is shortened by one other than c
 abbrev pub Settled : ℕ → List (List ℕ) → ℕ → Type 0
-Settled n S c = (k i : ℕ) → k < c → i < n → (i ≡ c → ⊥) → try_other bytes S k i ≡ none
+Settled n S c = (k i : ℕ) → k < c → i < n → (i ≡ c → ⊥) → try_other bytes S k i ≡ None
 
 -- a slot outside a range need not be tried with slot k: k comes before slot c, and the slot is not c
 abbrev pub Outside : ℕ → ℕ → ℕ → Slots → Type 0

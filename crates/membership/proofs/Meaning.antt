@@ -3,19 +3,17 @@
 use Prim.Native.Nat.{◌*◌, ◌≤◌, ℕ}
 use mathlib.Core.List.{List}
 use mathlib.Core.Logic.{inl, inr}
-use mathlib.Core.Option.{Option, none}
+use Rattle.std.specs.Prelude.{None, Option}
 use mathlib.Core.Path.{◌∙◌, ◌≡◌, ap, refl, sym}
 use native.Mathlib.Omega.{arith}
 use lib.ListN.{length, take}
 use borrow.Author.Tests.{le-leb}
 use Rattle.words.specs.Alphabet.{bytes}
 use Rattle.words.proofs.Alphabet.{byte_laws, flip_byte_no_own_inverse}
-use Rattle.systems.specs.Products.{Factor}
+use Rattle.systems.specs.declared.Factor.{Factor}
 use Rattle.systems.specs.Rules.{next}
 use Rattle.systems.proofs.Ending.{every_run-ends}
 use Rattle.records.specs.Answers.{on_fine}
-use Rattle.records.specs.declared.answers.Checked.{Checked}
-use Rattle.records.specs.declared.answers.Checked.TheVariants.{Failed, Fine}
 use Rattle.records.specs.declared.answers.Verdict.{Verdict}
 use Rattle.records.specs.declared.answers.Verdict.TheVariants.{Done}
 use Rattle.records.specs.Refusals.{target_rules}
@@ -35,29 +33,31 @@ use Rattle.asking.specs.Meaning.{Answered, Decides}
 use Rattle.asking.proofs.Meaning.{ask_means, ask_passes, decides-equivalent, verdict_cases, verdict_unrefused}
 use Rattle.membership.specs.Membership.{member_answer, member_checked, member_found, member_log, member_product, member_tests, member_words}
 use Rattle.membership.proofs.Calls.{passed_fits, passed_product, passed_rules, passed_system}
+use Rattle.std.specs.Prelude.{Err, Ok}
+use Rattle.records.specs.Refusals.{Checked}
 
 -- an answer that is no refusal comes from a call that passed its tests, and so does one of the two verdicts
-unrefused_fine : (c : Checked) (v : Verdict) (S : List (List ℕ)) (n : ℕ) → NotRefused (reduction_of c v S n).verdict → c ≡ Fine
-unrefused_fine Fine v S n h = refl
-unrefused_fine (Failed f) v S n h = absurd (h f refl)
+unrefused_fine : (c : Checked) (v : Verdict) (S : List (List ℕ)) (n : ℕ) → NotRefused (reduction_of c v S n).verdict → c ≡ Ok tt
+unrefused_fine (Ok _) v S n h = refl
+unrefused_fine (Err f) v S n h = absurd (h f refl)
 
 answered_unrefused : (v : Verdict) → Answered v → NotRefused v
 answered_unrefused v (inl e) f h = let z : ◌≡◌ {A = ℕ} 0 1 = cc in omega arith
 answered_unrefused v (inr e) f h = let z : ◌≡◌ {A = ℕ} 0 1 = cc in omega arith
 
 -- the call, where its tests and 13 passed
-module _ (s t words log product : List ℕ) (passed : member_checked s t words log product ≡ Fine) where
-  tests : member_tests s t (length words) (length product) ≡ Fine
+module _ (s t words log product : List ℕ) (passed : member_checked s t words log product ≡ Ok tt) where
+  tests : member_tests s t (length words) (length product) ≡ Ok tt
   tests = ran_tests s log (member_tests s t (length words) (length product)) passed
 
-  system : system_rules s ≡ Fine
+  system : system_rules s ≡ Ok tt
   system = passed_system s t (length words) (length product) tests
 
-  ended : next bytes (run_words s (room_for log)) ≡ none
+  ended : next bytes (run_words s (room_for log)) ≡ None
   ended = ran_ended s log (member_tests s t (length words) (length product)) passed
 
   -- so do the tests of reduce
-  room : system_room s (length words) ≡ Fine
+  room : system_room s (length words) ≡ Ok tt
   unfolding system_room
   room = rw (system, room_fits (slots s * 64) (length words) (passed_fits s t (length words) (length product) tests)) refl
 
@@ -85,7 +85,7 @@ module _ (s t words log product : List ℕ) (passed : member_checked s t words l
     found-same = ap (λ (T : List (List ℕ)). product_for T (target_word t)) words_back
 
     -- ask takes them
-    ask_passed : ask_tests (take (slots s * 64) words') t product ≡ Fine
+    ask_passed : ask_tests (take (slots s * 64) words') t product ≡ Ok tt
     ask_passed =
         ask_passes (take (slots s * 64) words') t product
         (record {
@@ -99,7 +99,7 @@ module _ (s t words log product : List ℕ) (passed : member_checked s t words l
     in_turn : InTurn s t words log product a words' log' product'
     in_turn =
         let v : Verdict = verdict_of (is_found (member_found s t words log product)) in
-        let told : a ≡ reduction_of Fine v (freely_reduced_words s) (room_for log) =
+        let told : a ≡ reduction_of (Ok tt) v (freely_reduced_words s) (room_for log) =
         answered ∙ ap (λ (c : Checked). reduction_of c v (freely_reduced_words s) (room_for log)) passed in
         let same : member_tests s t (length words) (length product) ≡ system_room s (length words) = tests ∙ sym room in
         record {
@@ -124,8 +124,8 @@ module _ (s t words log product : List ℕ) (passed : member_checked s t words l
         ((ask_means (take (slots s * 64) words') t product (record { verdict = a.verdict }) product' (sym in_turn.asked) in_turn.same_product).third_demand.decides told)
 
 -- with room for the words and the product the call passes its tests before the run
-pub tests_pass : (s t : List ℕ) (room product_room : ℕ) → system_rules s ≡ Fine → target_rules t ≡ Fine → slots s * 64 ≤ room → 64 ≤ product_room
-    → member_tests s t room product_room ≡ Fine
+pub tests_pass : (s t : List ℕ) (room product_room : ℕ) → system_rules s ≡ Ok tt → target_rules t ≡ Ok tt → slots s * 64 ≤ room → 64 ≤ product_room
+    → member_tests s t room product_room ≡ Ok tt
 unfolding member_tests
 tests_pass s t room product_room system target fits product =
     rw (system, target, room_fits (slots s * 64) room fits, le-leb 64 product_room product)
@@ -137,7 +137,7 @@ module _ (s t words log product : List ℕ) (a : Reduction) (words' log' product
   abbrev v : Verdict
   v = verdict_of (is_found (member_found s t words log product))
 
-  passed_answer : Answered a.verdict → member_checked s t words log product ≡ Fine
+  passed_answer : Answered a.verdict → member_checked s t words log product ≡ Ok tt
   passed_answer told = unrefused_fine _ v (freely_reduced_words s) (room_for log) (answered_unrefused _ (rw answered at told))
 
   -- are what reduce and ask in turn give

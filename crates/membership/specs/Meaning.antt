@@ -5,7 +5,6 @@ use Rattle.words.specs.Alphabet.{bytes}
 use Rattle.systems.specs.Rules.{moves_within}
 use Rattle.slots.specs.Systems.{freely_reduced_words, slots}
 use Rattle.slots.specs.Refusals.{system_rules}
-use Rattle.records.specs.declared.answers.Checked.TheVariants.{Fine}
 use Rattle.records.specs.declared.answers.Refusal.{Refusal}
 use Rattle.records.specs.declared.answers.Verdict.{Verdict}
 use Rattle.records.specs.declared.answers.Verdict.TheVariants.{Done, Refused}
@@ -16,13 +15,14 @@ use Rattle.reduction.specs.Reduction.{reduce_answer, reduce_log, reduce_words}
 use Rattle.reduction.specs.declared.answers.Reduction.{Reduction}
 use Rattle.asking.specs.Asking.{ask_answer, ask_product}
 use Rattle.asking.specs.Meaning.{Answered, ThirdDemand}
+use Rattle.std.specs.Prelude.{Ok}
 
 -- "in well-formed records with enough room lent for all results": 64 bytes of words buffer for each record, 64 bytes of product buffer,
 -- "and in the log buffer room for one log record for each move that the rules make on S"; that no byte of these three lies in
 -- another buffer is what lending them mutably means
 pub record EnoughRoom (given target words log product : List ℕ) : Type 0 where
-  pub system : system_rules given ≡ Fine
-  pub target_fits : target_rules target ≡ Fine
+  pub system : system_rules given ≡ Ok tt
+  pub target_fits : target_rules target ≡ Ok tt
   pub words_fit : slots given * 64 ≤ length words
   pub product_fits : 64 ≤ length product
   pub enough_moves : ℕ
@@ -37,7 +37,7 @@ pub record MemberMeans (given target words log product : List ℕ) (answer : Red
   -- the moves that the rules make are finitely many
   pub finite : (enough : ℕ) × EnoughMoves given enough
   -- where there is room for all but the moves, the call is refused with 13
-  pub log_short : system_rules given ≡ Fine → target_rules target ≡ Fine → slots given * 64 ≤ length words → 64 ≤ length product
+  pub log_short : system_rules given ≡ Ok tt → target_rules target ≡ Ok tt → slots given * 64 ≤ length words → 64 ≤ length product
       → (enough : ℕ) → EnoughMoves given enough → LogShort (moves_within bytes enough (freely_reduced_words given)) log log' answer
 
 -- "Where it isn't refused"

@@ -1,11 +1,10 @@
 -- Member: "system and target in; all that reduce gives, with member or not, and for a member the product".
 use Rattle.std.specs.Prelude.{◌*◌, ℕ, List, leb, length}
-use Rattle.std.proofs.Math.Option.{Option}
+use Rattle.std.specs.Prelude.{Option}
 use Rattle.words.specs.Alphabet.{bytes}
-use Rattle.systems.specs.Products.{Factor}
+use Rattle.systems.specs.declared.Factor.{Factor}
 use Rattle.systems.specs.Rules.{run_within}
 use Rattle.records.specs.Answers.{on_fine}
-use Rattle.records.specs.declared.answers.Checked.{Checked}
 use Rattle.records.specs.Refusals.{◌and_then◌, must, target_rules}
 use Rattle.slots.specs.Refusals.{system_rules, word_room}
 use Rattle.slots.specs.Systems.{freely_reduced_words, slots}
@@ -14,11 +13,13 @@ use Rattle.reduction.specs.Reduction.{log_after, reduction_of, run_tests, words_
 use Rattle.reduction.specs.declared.answers.Reduction.{Reduction}
 use Rattle.asking.specs.Asking.{verdict_of}
 use Rattle.factoring.specs.TargetProduct.{is_found, product_after, product_for, target_word}
+use Rattle.records.specs.declared.refusals.Reason.TheVariants.{ProductBufferShort}
+use Rattle.records.specs.Refusals.{Checked}
 
 -- refusals 1 to 5, 6, 10 and 11. "The product buffer is shorter than 64 bytes."
 unfoldable pub member_tests : List ℕ → List ℕ → ℕ → ℕ → Checked
 member_tests s t room product_room =
-    system_rules s and_then target_rules t and_then word_room (slots s * 64) room and_then must (leb 64 product_room) 11 0
+    system_rules s and_then target_rules t and_then word_room (slots s * 64) room and_then must (leb 64 product_room) ProductBufferShort 0
 
 -- the call, on the lent buffers: system, target, words, log and product
 module _ (s t words log product : List ℕ) where

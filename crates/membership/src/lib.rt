@@ -3,7 +3,6 @@
 
 ghost use Rattle.std.specs.Prelude.{◌*◌, ◌≤◌, ◌≡◌, length};
 ghost use Rattle.words.specs.Buffers.{written};
-ghost use Rattle.records.specs.declared.answers.Checked.TheVariants.{Fine};
 ghost use Rattle.slots.specs.Held.{Held, held};
 ghost use Rattle.slots.specs.Systems.{bytes_of};
 ghost use Rattle.factoring.specs.TargetProduct.{is_found, product_after, product_for, target_word};
@@ -12,9 +11,9 @@ ghost use Rattle.membership.specs.Meaning.{InTurn, MemberMeans, NotRefused};
 ghost use Rattle.membership.specs.Membership.{member_answer, member_log, member_product, member_tests, member_words};
 
 use asking::ask_held;
-use records::answers::{Checked, Verdict, check_that};
+use records::answers::{Refusal, Verdict, check_that};
 use records::record::{RECORD, check_target};
-use records::refusals::PRODUCT_BUFFER_SHORT;
+use records::refusals::Reason;
 use reduction::answers::Reduction;
 use reduction::reduce::{answer_with, reduce_held, refused};
 use slots::checks::{check_room, check_system};
@@ -53,7 +52,7 @@ fn member_records(
     ensures product { product.new ≡ member_product system.now target.now words.old log.old product.old }
 {
     let checked = check_member(system, target, words.len(), product.len());
-    let Checked::Fine = checked else {
+    let Ok(()) = checked else {
         return refused(checked);
     };
     decide(system, target, words, log, product)
@@ -67,7 +66,7 @@ fn decide(
     log: &mut [u8],
     product: &mut [u8],
 ) -> Reduction
-    requires { member_tests system.now target.now (length words.old) (length product.old) ≡ Fine }
+    requires { member_tests system.now target.now (length words.old) (length product.old) ≡ Ok tt }
     ensures answer { result ≡ member_answer system.now target.now words.old log.old product.old }
     ensures words { words.new ≡ member_words system.now target.now words.old log.old product.old }
     ensures log { log.new ≡ member_log system.now target.now words.old log.old product.old }
@@ -78,7 +77,7 @@ fn decide(
     let mut lengths = [0usize; 16];
     let summary = reduce_held(system, &mut letters, &mut lengths, log);
     let ended = summary.ended;
-    let Checked::Fine = ended else {
+    let Ok(()) = ended else {
         return refused(ended);
     };
     let verdict = conclude(target, n, &letters, &lengths, words, product);
@@ -105,25 +104,25 @@ fn conclude(
 }
 
 // Refusals 1 to 5, 6, 10 and 11.
-fn check_member(system: &[u8], target: &[u8], room: usize, product: usize) -> Checked
+fn check_member(system: &[u8], target: &[u8], room: usize, product: usize) -> Result<(), Refusal>
     ensures { result ≡ member_tests system.now target.now room product }
 {
     let checked = check_system(system);
-    let Checked::Fine = checked else {
+    let Ok(()) = checked else {
         return checked;
     };
     let targeted = check_target(target);
-    let Checked::Fine = targeted else {
+    let Ok(()) = targeted else {
         return targeted;
     };
     let n = system.len() / RECORD;
     let roomy = check_room(n * RECORD, room);
-    let Checked::Fine = roomy else {
+    let Ok(()) = roomy else {
         return roomy;
     };
-    let product_roomy = check_that(product >= RECORD, PRODUCT_BUFFER_SHORT, 0);
-    let Checked::Fine = product_roomy else {
+    let product_roomy = check_that(product >= RECORD, Reason::ProductBufferShort, 0);
+    let Ok(()) = product_roomy else {
         return product_roomy;
     };
-    Checked::Fine
+    Ok(())
 }

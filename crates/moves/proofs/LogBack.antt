@@ -11,15 +11,20 @@ use lib.Seq.{drop_at, drop-cons, drop-drop, drop-nil, ext_get_or, get_or-drop}
 use borrow.Author.Tests.{le-leb, lt-ltb, ne_eqb}
 use Rattle.words.specs.Alphabet.{bytes}
 use Rattle.words.proofs.Below.{below_at, below_length}
-use Rattle.systems.specs.Moves.{Form, Move, form₁, form₂, form₃, form₄, made}
+use Rattle.systems.specs.Moves.{made}
+use Rattle.systems.specs.declared.Form.{Form}
+use Rattle.systems.specs.declared.Move.{Move}
+use Rattle.systems.specs.declared.Form.TheVariants.{After, Before, InverseAfter, InverseBefore}
+use Rattle.systems.specs.Moves.{form_digit}
 use Rattle.systems.specs.Rules.{form_at}
 use Rattle.systems.proofs.Neither.{ValidMoves}
 use Rattle.systems.proofs.Undoing.{Apart, made-length}
 use Rattle.records.specs.Refusals.{each_below}
-use Rattle.records.specs.declared.answers.Checked.TheVariants.{Fine}
 use Rattle.records.proofs.Chains.{each_passes, must_pass}
-use Rattle.moves.specs.Logs.{form_digit, is_move, log_of, log_record, log_rules, move_at, move_rule, move_size, moves_in, names_slot}
+use Rattle.moves.specs.Logs.{is_move, log_of, log_record, log_rules, move_at, move_rule, move_size, moves_in, names_slot}
 use Rattle.moves.proofs.Logging.{log_even}
+use Rattle.records.specs.declared.refusals.Reason.TheVariants.{LogRecordMalformed}
+use Rattle.std.specs.Prelude.{Ok}
 
 -- the log of a list of moves, in parts
 pub log_of-append : (ms ns : List Move) → log_of (ms ++ ns) ≡ log_of ms ++ log_of ns
@@ -64,16 +69,16 @@ AllBetween n (m ∷ ms) = Between n m × AllBetween n ms
 
 -- what is written as a log record is read back, and passes the tests
 form_back : (f : Form) → form_at (form_digit f - 49) ≡ f
-form_back form₁ = refl
-form_back form₂ = refl
-form_back form₃ = refl
-form_back form₄ = refl
+form_back Before = refl
+form_back InverseBefore = refl
+form_back After = refl
+form_back InverseAfter = refl
 
 digit_back : (f : Form) → leb 49 (form_digit f) && leb (form_digit f) 52 ≡ true
-digit_back form₁ = refl
-digit_back form₂ = refl
-digit_back form₃ = refl
-digit_back form₄ = refl
+digit_back Before = refl
+digit_back InverseBefore = refl
+digit_back After = refl
+digit_back InverseAfter = refl
 
 slot_back : (n k : ℕ) → k < n → names_slot n (97 + k) ≡ true
 slot_back n k h = rw (le-leb 97 (97 + k) (omega arith), lt-ltb (97 + k - 97) n (omega arith))
@@ -116,15 +121,15 @@ all_at n (m ∷ ms) zero d all h = all.0
 all_at n (m ∷ ms) (suc j) d all h = all_at n ms j d all.1 (omega arith)
 
 -- the log of moves between the first n slots passes the tests over n slots
-pub log_of_passes : (n : ℕ) (ms : List Move) → AllBetween n ms → log_rules n (log_of ms) ≡ Fine
+pub log_of_passes : (n : ℕ) (ms : List Move) → AllBetween n ms → log_rules n (log_of ms) ≡ Ok tt
 log_of_passes n ms all =
     let d : Move = move_at [] 0 in
     let even : length (log_of ms) % move_size ≡ 0 = omega (arith, log_of-length ms) in
-    let each : each_below (move_rule n (log_of ms)) (length (log_of ms) / move_size) ≡ Fine =
+    let each : each_below (move_rule n (log_of ms)) (length (log_of ms) / move_size) ≡ (Ok tt) =
     each_passes (move_rule n (log_of ms)) (length (log_of ms) / move_size)
     (λ j h.
     let inside : j < length ms = omega (arith, log_of-count ms) in
-    must_pass _ 8 (j * move_size) (log_of_valid ms j inside d n (all_at n ms j d all inside))) in
+    must_pass _ LogRecordMalformed (j * move_size) (log_of_valid ms j inside d n (all_at n ms j d all inside))) in
     log_even n (log_of ms) even each
 
 -- the moves of a run lie between slots of its system

@@ -1,21 +1,24 @@
 -- Log records: their tests, one read and one written. A log that passes its tests holds moves between slots of the system.
-use Prim.Native.Nat.{◌%◌, ◌*◌, ◌+◌, ◌-◌, ◌/◌, ◌<◌, ◌≤◌, suc, zero, ℕ}
+use Prim.Native.Nat.{◌%◌, ◌*◌, ◌+◌, ◌-◌, ◌/◌, ◌<◌, ◌≤◌, ℕ}
 use mathlib.Core.Bool.{Bool, ◌&&◌, false, not, true}
 use mathlib.Core.List.{List, [], ◌++◌, ◌∷◌, append_assoc}
-use mathlib.Core.Path.{◌∙◌, ◌≡◌, refl}
+use mathlib.Core.Path.{◌∙◌, ◌≡◌}
 use native.Mathlib.Numerals.{add-one, add-three, add-two}
 use native.Mathlib.Omega.{arith}
 use lib.Dec.{eqb, leb, ltb}
 use lib.ListN.{drop, get_or, length, set, take}
 use lib.Seq.{sets-eq}
 use borrow.Author.Tests.{eq-eqb, eqb-false, le-leb, leb-true, lt-leb, ltb-true, ne_eqb, not-true}
-use Rattle.systems.specs.Moves.{Move}
+use Rattle.systems.specs.declared.Form.{Form}
+use Rattle.systems.specs.declared.Move.{Move}
+use Rattle.systems.specs.Moves.{form_digit}
 use Rattle.systems.specs.Rules.{form_at}
 use Rattle.systems.proofs.Logic.{all_four, and_left, and_right}
 use Rattle.records.specs.Refusals.{each_below, must}
-use Rattle.records.specs.declared.answers.Checked.TheVariants.{Fine}
 use Rattle.records.proofs.Chains.{each_passed, fine_next, must_fine}
-use Rattle.moves.specs.Logs.{form_digit, is_move, log_record, log_rules, move_at, move_rule, move_size, names_slot}
+use Rattle.moves.specs.Logs.{is_move, log_record, log_rules, move_at, move_rule, move_size, names_slot}
+use Rattle.records.specs.declared.refusals.Reason.TheVariants.{LogRecordMalformed, LogUneven}
+use Rattle.std.specs.Prelude.{Ok}
 
 -- a byte names a slot or not, by where it stands
 module _ (n b : ℕ) where
@@ -54,7 +57,7 @@ module _ (n : ℕ) (log : List ℕ) (j : ℕ) where
             move_apart h = rw (changed, le-leb _ _ low, le-leb _ _ high, other, eq-eqb _ _ ended, ne_eqb _ _ h)
 
 -- refusals 7 and 8
-pub log_even : (n : ℕ) (log : List ℕ) → length log % move_size ≡ 0 → each_below (move_rule n log) (length log / move_size) ≡ Fine → log_rules n log ≡ Fine
+pub log_even : (n : ℕ) (log : List ℕ) → length log % move_size ≡ 0 → each_below (move_rule n log) (length log / move_size) ≡ Ok tt → log_rules n log ≡ Ok tt
 unfolding log_rules
 log_even n log even e = rw (eq-eqb _ _ even, e)
 
@@ -102,38 +105,26 @@ module _ (n : ℕ) (log : List ℕ) (j : ℕ) (valid : is_move n log j ≡ true)
   pub read_changed : {k : ℕ} → k ≡ get_or log (j * move_size) 0 - 97 → k < n
   read_changed e = omega (arith, tells)
 
-  pub read_form : {f : ℕ} → f ≡ get_or log (j * move_size + 1) 0 - 49 → f < 4
-  read_form e = omega (arith, tells)
-
   pub read_other : {i : ℕ} → i ≡ get_or log (j * move_size + 2) 0 - 97 → i < n
   read_other e = omega (arith, tells)
 
   pub read_apart : {k i : ℕ} → k ≡ get_or log (j * move_size) 0 - 97 → i ≡ get_or log (j * move_size + 2) 0 - 97 → k ≡ i → ⊥
   read_apart d e h = tells.apart (omega (arith, tells))
 
-pub read_move : {k f i : ℕ} (log : List ℕ) (j : ℕ) → k ≡ get_or log (j * move_size) 0 - 97 → f ≡ get_or log (j * move_size + 1) 0 - 49 → i ≡ get_or log (j * move_size + 2) 0 - 97
-    → ◌≡◌ {A = Move} (record { changed = k; form = form_at f; other = i }) (move_at log j)
-read_move log j d e h = rw (d, e, h)
-
--- the digit of a form that is counted from 0
-form_digit_lem : (f : ℕ) → f < 4 → 49 + f ≡ form_digit (form_at f)
-form_digit_lem zero h = refl
-form_digit_lem (suc zero) h = refl
-form_digit_lem (suc (suc zero)) h = refl
-form_digit_lem (suc (suc (suc zero))) h = refl
-form_digit_lem (suc (suc (suc (suc f)))) h = absurd (omega arith)
+pub read_move : {k f i : ℕ} {form : Form} (log : List ℕ) (j : ℕ) → k ≡ get_or log (j * move_size) 0 - 97 → f ≡ get_or log (j * move_size + 1) 0 - 49
+    → form ≡ form_at f → i ≡ get_or log (j * move_size + 2) 0 - 97 → ◌≡◌ {A = Move} (record { changed = k; form = form; other = i }) (move_at log j)
+read_move log j d e told h = rw (d, told, e, h)
 
 -- four stores write a log record
-pub move_written : (d : List ℕ) (j k f i : ℕ) → j * move_size + move_size ≤ length d → f < 4
-    → set (set (set (set d (j * move_size) (97 + k)) (j * move_size + 1) (49 + f)) (j * move_size + 2) (97 + i)) (j * move_size + 3) 10
-    ≡ take (j * move_size) d ++ (log_record (record { changed = k; form = form_at f; other = i }) ++ drop (j * move_size + move_size) d)
-move_written d j k f i room h =
-    rw (form_digit_lem f h, add-one, add-two, add-three)
-    (sets-eq (log_record (record { changed = k; form = form_at f; other = i })) d (j * move_size) room ∙ append_assoc (take (j * move_size) d) _ _)
+pub move_written : (d : List ℕ) (j : ℕ) (m : Move) {digit : ℕ} → digit ≡ form_digit m.form → j * move_size + move_size ≤ length d
+    → set (set (set (set d (j * move_size) (97 + m.changed)) (j * move_size + 1) digit) (j * move_size + 2) (97 + m.other)) (j * move_size + 3) 10
+    ≡ take (j * move_size) d ++ (log_record m ++ drop (j * move_size + move_size) d)
+move_written d j m e room =
+    rw (e, add-one, add-two, add-three) (sets-eq (log_record m) d (j * move_size) room ∙ append_assoc (take (j * move_size) d) _ _)
 
 -- a log that passes its tests holds moves
-pub passed_move : (n : ℕ) (log : List ℕ) → log_rules n log ≡ Fine → (j : ℕ) → j < length log / move_size → is_move n log j ≡ true
+pub passed_move : (n : ℕ) (log : List ℕ) → log_rules n log ≡ Ok tt → (j : ℕ) → j < length log / move_size → is_move n log j ≡ true
 unfolding log_rules
 passed_move n log fine j h =
-    let each : each_below (move_rule n log) (length log / move_size) ≡ Fine = fine_next (must (eqb (length log % move_size) 0) 7 0) _ fine in
-    must_fine _ 8 (j * move_size) (each_passed (move_rule n log) (length log / move_size) j each h)
+    let each : each_below (move_rule n log) (length log / move_size) ≡ (Ok tt) = fine_next (must (eqb (length log % move_size) 0) LogUneven 0) _ fine in
+    must_fine _ LogRecordMalformed (j * move_size) (each_passed (move_rule n log) (length log / move_size) j each h)

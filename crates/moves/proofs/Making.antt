@@ -1,58 +1,32 @@
 -- One move: the word that it puts into its slot, and the words after it.
-use Prim.Native.Nat.{◌%◌, ◌*◌, ◌+◌, ◌-◌, ◌<◌, ◌≤◌, suc, zero, ℕ}
+use Prim.Native.Nat.{◌*◌, ◌+◌, ◌-◌, ◌<◌, ◌≤◌, ℕ}
 use mathlib.Core.Bool.{false, true}
-use mathlib.Core.List.{List, [], ◌++◌}
+use mathlib.Core.List.{List, []}
 use mathlib.Core.Path.{◌∙◌, ◌≡◌, ap, ap₂, refl, sym}
 use native.Mathlib.Omega.{arith}
-use lib.Dec.{eqb, leb}
+use lib.Dec.{leb}
 use lib.ListN.{drop, length, length-set, length-take, set, take}
 use lib.Seq.{length-take-le, take-append-le, take-take}
 use borrow.Author.Tests.{le-leb, lt-leb}
 use borrow.Rule.Slice.PartMut.{put_mid, same_len_mid}
 use Rattle.words.specs.Alphabet.{bytes}
 use Rattle.words.specs.Buffers.{written}
-use Rattle.words.specs.Words.{Irreducible, freely_reduce, signed}
+use Rattle.words.specs.Words.{Irreducible, freely_reduce}
 use Rattle.words.proofs.Alphabet.{byte_laws}
 use Rattle.words.proofs.FreeReduction.{irreducible_of_same}
-use Rattle.words.proofs.Joining.{pushed_twice}
 use Rattle.systems.specs.Moves.{formed, made, moved_word}
-use Rattle.systems.specs.Rules.{form_at}
 use Rattle.systems.proofs.Undoing.{set_holds}
 use Rattle.slots.specs.Held.{Held, held, held_word}
 use Rattle.slots.proofs.Holding.{back_above, back_below, back_part, held_put, held_word_lem, short_put}
-use Rattle.moves.specs.Found.{move_of}
-use Rattle.moves.specs.declared.found.Move.{Move as CodeMove}
-
--- the four forms: the other word before the changed one or after it, inverted or not
-module _ (other changed t t' : List ℕ) (form n r : ℕ) (known : form < 4) where
-  pub form-before : form < 2 → take n t ≡ freely_reduce bytes (signed bytes (eqb (form % 2) 1) other)
-      → take r t' ≡ freely_reduce bytes (take n t ++ changed) → take r t' ≡ freely_reduce bytes (formed bytes (form_at form) other changed)
-  form-before h e f = pushed_twice t t' n r (signed bytes (eqb (form % 2) 1) other) changed e f ∙ ap (freely_reduce bytes) (go form h)
-    where
-      go : (k : ℕ) → k < 2 → signed bytes (eqb (k % 2) 1) other ++ changed ≡ formed bytes (form_at k) other changed
-      go zero h = refl
-      go (suc zero) h = refl
-      go (suc (suc k)) h = absurd (omega arith)
-
-  pub form-after : 2 ≤ form → take n t ≡ freely_reduce bytes changed
-      → take r t' ≡ freely_reduce bytes (take n t ++ signed bytes (eqb (form % 2) 1) other)
-      → take r t' ≡ freely_reduce bytes (formed bytes (form_at form) other changed)
-  form-after h e f = pushed_twice t t' n r changed (signed bytes (eqb (form % 2) 1) other) e f ∙ ap (freely_reduce bytes) (go form known h)
-    where
-      go : (k : ℕ) → k < 4 → 2 ≤ k → changed ++ signed bytes (eqb (k % 2) 1) other ≡ formed bytes (form_at k) other changed
-      go zero l h = absurd (omega arith)
-      go (suc zero) l h = absurd (omega arith)
-      go (suc (suc zero)) l h = refl
-      go (suc (suc (suc zero))) l h = refl
-      go (suc (suc (suc (suc k)))) l h = absurd (omega arith)
+use Rattle.systems.specs.declared.Move.{Move}
 
 -- the word that a move puts into its slot
-pub word_moved : (letters lengths t u v : List ℕ) (n : ℕ) (m : CodeMove) (r : ℕ) → m.changed < n → m.other < n
+pub word_moved : (letters lengths t u v : List ℕ) (n : ℕ) (m : Move) (r : ℕ) → m.changed < n → m.other < n
     → u ≡ held_word letters lengths m.other → v ≡ held_word letters lengths m.changed
-    → take r t ≡ freely_reduce bytes (formed bytes (form_at m.form) u v) → take r t ≡ moved_word bytes (held n letters lengths) (move_of m)
+    → take r t ≡ freely_reduce bytes (formed bytes m.form u v) → take r t ≡ moved_word bytes (held n letters lengths) m
 word_moved letters lengths t u v n m r k i e f told =
     told
-    ∙ ap₂ (λ (a b : List ℕ). freely_reduce bytes (formed bytes (form_at m.form) a b)) (e ∙ sym (held_word_lem n m.other letters lengths i))
+    ∙ ap₂ (λ (a b : List ℕ). freely_reduce bytes (formed bytes m.form a b)) (e ∙ sym (held_word_lem n m.other letters lengths i))
     (f ∙ sym (held_word_lem n m.changed letters lengths k))
 
 -- its length is the number of letters in the buffer
@@ -95,6 +69,6 @@ module _ (letters lengths y w : List ℕ) (n k size : ℕ) (here : Held n letter
       }
 
 -- the words after a move
-pub move_made : (S S' : List (List ℕ)) (t : List ℕ) (size : ℕ) (m : CodeMove) → S' ≡ set S m.changed (take size t)
-    → take size t ≡ moved_word bytes S (move_of m) → S' ≡ made bytes S (move_of m)
+pub move_made : (S S' : List (List ℕ)) (t : List ℕ) (size : ℕ) (m : Move) → S' ≡ set S m.changed (take size t)
+    → take size t ≡ moved_word bytes S m → S' ≡ made bytes S m
 move_made S S' t size m put told = put ∙ ap (set S m.changed) told

@@ -1,21 +1,16 @@
 -- Log records: "One move in a log is 4 bytes: slot changed, form digit, other slot, line feed."
 use Rattle.std.specs.Prelude.{◌%◌, ◌*◌, ◌+◌, ◌-◌, ◌/◌, ℕ, Bool, ◌&&◌, not, List, [], ◌++◌, ◌∷◌, eqb, leb, ltb, get_or, length}
 use Rattle.words.specs.Below.{below}
-use Rattle.systems.specs.Moves.{Form, Move, form₁, form₂, form₃, form₄}
+use Rattle.systems.specs.declared.Move.{Move}
+use Rattle.systems.specs.Moves.{form_digit}
 use Rattle.systems.specs.Rules.{form_at}
 use Rattle.records.specs.Refusals.{◌and_then◌, each_below, must}
-use Rattle.records.specs.declared.answers.Checked.{Checked}
+use Rattle.records.specs.declared.refusals.Reason.TheVariants.{LogRecordMalformed, LogUneven}
+use Rattle.records.specs.Refusals.{Checked}
 
 -- how many bytes a log record has
 abbrev pub move_size : ℕ
 move_size = 4
-
--- the digit of a form, 1 to 4
-abbrev pub form_digit : Form → ℕ
-form_digit form₁ = 49
-form_digit form₂ = 50
-form_digit form₃ = 51
-form_digit form₄ = 52
 
 -- the log record of a move; slots are named a to p
 abbrev pub log_record : Move → List ℕ
@@ -54,8 +49,8 @@ is_move n log j =
 
 -- 8, on a log record of a log over n slots
 abbrev pub move_rule : ℕ → List ℕ → ℕ → Checked
-move_rule n log j = must (is_move n log j) 8 (j * move_size)
+move_rule n log j = must (is_move n log j) LogRecordMalformed (j * move_size)
 
 -- 7. "The log to replay has a length that is not a multiple of 4." Then 8.
 unfoldable pub log_rules : ℕ → List ℕ → Checked
-log_rules n log = must (eqb (length log % move_size) 0) 7 0 and_then each_below (move_rule n log) (length log / move_size)
+log_rules n log = must (eqb (length log % move_size) 0) LogUneven 0 and_then each_below (move_rule n log) (length log / move_size)

@@ -1,6 +1,5 @@
-// Moves on words held in arrays: a move, its log record, and how it is made.
+// Moves on words held in arrays: their log records, and how they are made.
 #![tactic(auto)]
 
-pub mod found;
 pub mod log;
 pub mod make;

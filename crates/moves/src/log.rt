@@ -1,12 +1,11 @@
 // Log records: one reader, one writer, one size.
 ghost use Rattle.std.specs.Prelude.{◌*◌, ◌+◌, ◌-◌, ◌<◌, ◌≤◌, true, ◌++◌, ◌≡◌, drop, length, take};
 ghost use Rattle.records.specs.Refusals.{each_below};
-ghost use Rattle.moves.specs.Found.{move_of};
 ghost use Rattle.moves.specs.Logs.{is_move, log_record, log_rules, move_at, move_rule, move_size, names_slot};
 
-use crate::found::Move;
-use records::answers::{Checked, check_that};
-use records::refusals::{LOG_RECORD_MALFORMED, LOG_UNEVEN};
+use records::answers::{Refusal, check_that};
+use records::refusals::Reason;
+use systems::{Form, Move};
 
 // The bytes of a log record.
 pub const MOVE: usize = 4;
@@ -61,44 +60,44 @@ fn is_move(n: usize, log: &[u8], j: usize) -> bool
 }
 
 // Refusals 7 and 8.
-pub fn check_log(n: usize, log: &[u8]) -> Checked
+pub fn check_log(n: usize, log: &[u8]) -> Result<(), Refusal>
     ensures { result ≡ log_rules n log.now }
 {
-    let even = check_that(log.len() % MOVE == 0, LOG_UNEVEN, 0);
-    let Checked::Fine = even else {
+    let even = check_that(log.len() % MOVE == 0, Reason::LogUneven, 0);
+    let Ok(()) = even else {
         return even;
     };
     check_moves(n, log, log.len() / MOVE)
 }
 
 // Refusal 8 on the first m log records.
-fn check_moves(n: usize, log: &[u8], m: usize) -> Checked
+fn check_moves(n: usize, log: &[u8], m: usize) -> Result<(), Refusal>
     requires { m * move_size ≤ length log.now }
     ensures { result ≡ each_below (move_rule n log.now) m }
 {
     let mut j = 0;
     while j < m {
-        let checked = check_that(is_move(n, log, j), LOG_RECORD_MALFORMED, j * MOVE);
-        let Checked::Fine = checked else {
+        let checked = check_that(is_move(n, log, j), Reason::LogRecordMalformed, j * MOVE);
+        let Ok(()) = checked else {
             return checked;
         };
         j += 1;
     }
-    Checked::Fine
+    Ok(())
 }
 
 // Reads the move in a log record that is one over n slots.
 pub fn read_move(n: usize, log: &[u8], j: usize) -> Move
     requires inside { j * move_size + move_size ≤ length log.now }
     requires valid { is_move n log.now j ≡ true }
-    ensures slots { (result.changed < n) × (result.other < n) × (result.form < 4) }
+    ensures slots { (result.changed < n) × (result.other < n) }
     ensures apart { result.changed ≡ result.other → ⊥ }
-    ensures read { move_of result ≡ move_at log.now j }
+    ensures read { result ≡ move_at log.now j }
 {
     let at = j * MOVE;
     Move {
         changed: above(log[at], 97),
-        form: above(log[at + 1], 49),
+        form: Form::at(above(log[at + 1], 49)),
         other: above(log[at + 2], 97),
     }
 }
@@ -106,12 +105,12 @@ pub fn read_move(n: usize, log: &[u8], j: usize) -> Move
 // Writes a move as a log record.
 pub fn write_move(log: &mut [u8], j: usize, m: Move)
     requires inside { j * move_size + move_size ≤ length log.old }
-    requires slots { (m.changed < 16) × (m.other < 16) × (m.form < 4) }
-    ensures { log.new ≡ take (j * move_size) log.old ++ (log_record (move_of m) ++ drop (j * move_size + move_size) log.old) }
+    requires slots { (m.changed < 16) × (m.other < 16) }
+    ensures { log.new ≡ take (j * move_size) log.old ++ (log_record m ++ drop (j * move_size + move_size) log.old) }
 {
     let at = j * MOVE;
     log[at] = 97 + m.changed as u8;
-    log[at + 1] = 49 + m.form as u8;
+    log[at + 1] = u8::from(m.form);
     log[at + 2] = 97 + m.other as u8;
     log[at + 3] = 10;
 }

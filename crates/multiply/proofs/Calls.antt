@@ -11,8 +11,6 @@ use borrow.Author.Tests.{leb-true}
 use Rattle.words.specs.Buffers.{written}
 use Rattle.records.specs.Records.{record_of}
 use Rattle.records.specs.Refusals.{◌and_then◌, must, target_rules}
-use Rattle.records.specs.declared.answers.Checked.{Checked}
-use Rattle.records.specs.declared.answers.Checked.TheVariants.{Failed, Fine}
 use Rattle.records.specs.declared.answers.Refusal.{Refusal}
 use Rattle.records.proofs.Chains.{fine_first, fine_next, must_fine, then_failed, then_fine}
 use Rattle.records.proofs.Targets.{target-sized}
@@ -22,19 +20,22 @@ use Rattle.slots.proofs.Systems.{record-length, room_enough, system-size}
 use Rattle.words.proofs.Buffers.{front_short}
 use Rattle.multiply.specs.Multiply.{multiply_rules, multiply_tests, product_word}
 use Rattle.multiply.specs.SlotLetters.{slot_rule}
+use Rattle.records.specs.declared.refusals.Reason.TheVariants.{WordTooLong}
+use Rattle.std.specs.Prelude.{Err, Ok}
+use Rattle.records.specs.Refusals.{Checked}
 
 -- what the tests leave, and the whole answer
 module _ (s p : List ℕ) (room : ℕ) {x : Checked} (tests : x ≡ multiply_tests s p room) where
-  pub rules_failed : {f : Refusal} → x ≡ Failed f → x ≡ multiply_rules s p room
+  pub rules_failed : {f : Refusal} → x ≡ Err f → x ≡ multiply_rules s p room
   unfolding multiply_rules
   rules_failed h = then_failed _ _ tests h
 
-  module _ (passed : x ≡ Fine) where
-    past_system : target_rules p and_then slot_rule (slots s) p and_then word_room 64 room ≡ Fine
+  module _ (passed : x ≡ Ok tt) where
+    past_system : target_rules p and_then slot_rule (slots s) p and_then word_room 64 room ≡ Ok tt
     unfolding multiply_tests
     past_system = fine_next (system_rules s) _ (sym tests ∙ passed)
 
-    past_target : slot_rule (slots s) p and_then word_room 64 room ≡ Fine
+    past_target : slot_rule (slots s) p and_then word_room 64 room ≡ Ok tt
     past_target = fine_next (target_rules p) _ past_system
 
     pub passed_size : length s ≤ 1024
@@ -44,7 +45,7 @@ module _ (s p : List ℕ) (room : ℕ) {x : Checked} (tests : x ≡ multiply_tes
     pub passed_product : length p ≡ 64
     passed_product = target-sized p (fine_first (target_rules p) _ past_system)
 
-    pub passed_slots : slot_rule (slots s) p ≡ Fine
+    pub passed_slots : slot_rule (slots s) p ≡ Ok tt
     passed_slots = fine_first (slot_rule (slots s) p) _ past_target
 
     pub passed_room : 64 ≤ room
@@ -55,9 +56,9 @@ module _ (s p : List ℕ) (room : ℕ) {x : Checked} (tests : x ≡ multiply_tes
       comes_to = ap length (sym told) ∙ length-take-le size list (omega arith)
 
       -- refusal 12
-      pub rules_told : {y : Checked} → y ≡ must (leb size 63) 12 0 → y ≡ multiply_rules s p room
+      pub rules_told : {y : Checked} → y ≡ must (leb size 63) WordTooLong 0 → y ≡ multiply_rules s p room
       unfolding multiply_rules
-      rules_told e = then_fine _ _ tests passed (e ∙ ap (λ (n : ℕ). must (leb n 63) 12 0) (sym comes_to))
+      rules_told e = then_fine _ _ tests passed (e ∙ ap (λ (n : ℕ). must (leb n 63) WordTooLong 0) (sym comes_to))
 
       -- the record of that word at the beginning of the buffer, and the bytes after it as they were
       pub word-written : {y : List ℕ} (buffer : List ℕ) → size ≤ 63 → y ≡ record_of (take (size - 0) list)
@@ -70,8 +71,8 @@ module _ (s p : List ℕ) (room : ℕ) {x : Checked} (tests : x ≡ multiply_tes
           ∙ ap (λ (k : ℕ). record_of (product_word s p) ++ drop k buffer) long
 
 -- a word that passed refusal 12
-pub passed_short : (size : ℕ) {y : Checked} → y ≡ must (leb size 63) 12 0 → y ≡ Fine → size ≤ 63
-passed_short size e h = leb-true size 63 (must_fine (leb size 63) 12 0 (sym e ∙ h))
+pub passed_short : (size : ℕ) {y : Checked} → y ≡ must (leb size 63) WordTooLong 0 → y ≡ Ok tt → size ≤ 63
+passed_short size e h = leb-true size 63 (must_fine (leb size 63) WordTooLong 0 (sym e ∙ h))
 
-pub piece_short : (size : ℕ) (list : List ℕ) {y : Checked} → y ≡ must (leb size 63) 12 0 → y ≡ Fine → length (take (size - 0) list) ≤ 63
+pub piece_short : (size : ℕ) (list : List ℕ) {y : Checked} → y ≡ must (leb size 63) WordTooLong 0 → y ≡ Ok tt → length (take (size - 0) list) ≤ 63
 piece_short size list e h = front_short list size 63 (passed_short size e h)

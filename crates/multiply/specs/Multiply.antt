@@ -7,11 +7,12 @@ use Rattle.records.specs.Records.{record_of}
 use Rattle.words.specs.Buffers.{written}
 use Rattle.records.specs.Answers.{answer_of, on_fine}
 use Rattle.records.specs.declared.answers.Answer.{Answer}
-use Rattle.records.specs.declared.answers.Checked.{Checked}
 use Rattle.records.specs.Refusals.{must, ◌and_then◌, target_rules}
 use Rattle.slots.specs.Refusals.{system_rules, word_room}
 use Rattle.slots.specs.Factors.{product_of}
 use Rattle.multiply.specs.SlotLetters.{slot_rule}
+use Rattle.records.specs.declared.refusals.Reason.TheVariants.{WordTooLong}
+use Rattle.records.specs.Refusals.{Checked}
 
 -- what a product over a system multiplies out to
 unfoldable pub product_word : List ℕ → List ℕ → List ℕ
@@ -23,7 +24,7 @@ multiply_tests s p room = system_rules s and_then target_rules p and_then slot_r
 
 -- and then 12: "the result of multiply, freely reduces to more than 63 letters"
 unfoldable pub multiply_rules : List ℕ → List ℕ → ℕ → Checked
-multiply_rules s p room = multiply_tests s p room and_then must (leb (length (product_word s p)) 63) 12 0
+multiply_rules s p room = multiply_tests s p room and_then must (leb (length (product_word s p)) 63) WordTooLong 0
 
 abbrev pub multiply_answer : List ℕ → List ℕ → List ℕ → Answer
 multiply_answer s p buffer = answer_of (multiply_rules s p (length buffer))

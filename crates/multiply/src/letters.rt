@@ -3,9 +3,9 @@ ghost use Rattle.std.specs.Prelude.{◌≡◌, length};
 ghost use Rattle.slots.specs.Factors.{factor_of};
 ghost use Rattle.multiply.specs.SlotLetters.{slot_rule};
 
-use records::answers::{Checked, check_that};
+use records::answers::{Refusal, check_that};
 use records::record::word_length;
-use records::refusals::SLOT_MISSING;
+use records::refusals::Reason;
 
 // The slot that a letter of a product names.
 pub fn slot_of(b: u8) -> usize
@@ -21,18 +21,18 @@ pub fn slot_of(b: u8) -> usize
 }
 
 // Refusal 9: every letter of a product names one of the first n slots.
-pub fn check_slots(n: usize, product: &[u8]) -> Checked
+pub fn check_slots(n: usize, product: &[u8]) -> Result<(), Refusal>
     requires { length product.now ≡ 64 }
     ensures { result ≡ slot_rule n product.now }
 {
     let count = word_length(product);
     let mut i = 0;
     while i < count {
-        let checked = check_that(slot_of(product[i]) < n, SLOT_MISSING, i);
-        let Checked::Fine = checked else {
+        let checked = check_that(slot_of(product[i]) < n, Reason::SlotMissing, i);
+        let Ok(()) = checked else {
             return checked;
         };
         i += 1;
     }
-    Checked::Fine
+    Ok(())
 }

@@ -5,7 +5,6 @@ ghost use Rattle.std.specs.Prelude.{◌+◌, ◌<◌, ◌≤◌, ◌++◌, ◌�
 ghost use Rattle.words.specs.Alphabet.{bytes};
 ghost use Rattle.words.specs.Words.{freely_reduce};
 ghost use Rattle.systems.specs.Products.{multiplied, value};
-ghost use Rattle.records.specs.declared.answers.Checked.TheVariants.{Fine};
 ghost use Rattle.slots.specs.Factors.{factor_of, product_of};
 ghost use Rattle.slots.specs.Held.{Held, held};
 ghost use Rattle.slots.specs.Systems.{slots};
@@ -13,9 +12,9 @@ ghost use Rattle.multiply.specs.Multiply.{multiply_answer, multiply_buffer, mult
 ghost use Rattle.multiply.specs.SlotLetters.{slot_rule};
 
 use crate::letters::{check_slots, slot_of};
-use records::answers::{Answer, Checked, answer_of, check_that};
+use records::answers::{Answer, Refusal, answer_of, check_that};
 use records::record::{RECORD, check_target, word_length, write_record};
-use records::refusals::WORD_TOO_LONG;
+use records::refusals::Reason;
 use slots::checks::{check_room, check_system};
 use slots::held::{load, word_at};
 use words::product::push_signed;
@@ -28,13 +27,13 @@ pub fn multiply(system: &[u8], product: &[u8], word: &mut [u8]) -> Answer
     ensures word { word.new ≡ multiply_buffer system.now product.now word.old }
 {
     let checked = check_multiply(system, product, word.len());
-    let Checked::Fine = checked else {
+    let Ok(()) = checked else {
         return answer_of(checked);
     };
     let mut list = [0u8; 4096];
     let size = product_word(system, product, &mut list);
-    let fitted = check_that(size <= 63, WORD_TOO_LONG, 0);
-    let Checked::Fine = fitted else {
+    let fitted = check_that(size <= 63, Reason::WordTooLong, 0);
+    let Ok(()) = fitted else {
         return answer_of(fitted);
     };
     write_record(&list[0..size], &mut word[0..64]);
@@ -42,32 +41,32 @@ pub fn multiply(system: &[u8], product: &[u8], word: &mut [u8]) -> Answer
 }
 
 // Refusals 1 to 5, 6, 9 and 10.
-fn check_multiply(system: &[u8], product: &[u8], room: usize) -> Checked
+fn check_multiply(system: &[u8], product: &[u8], room: usize) -> Result<(), Refusal>
     ensures { result ≡ multiply_tests system.now product.now room }
 {
     let checked = check_system(system);
-    let Checked::Fine = checked else {
+    let Ok(()) = checked else {
         return checked;
     };
     let targeted = check_target(product);
-    let Checked::Fine = targeted else {
+    let Ok(()) = targeted else {
         return targeted;
     };
     let slotted = check_slots(system.len() / RECORD, product);
-    let Checked::Fine = slotted else {
+    let Ok(()) = slotted else {
         return slotted;
     };
     let roomy = check_room(RECORD, room);
-    let Checked::Fine = roomy else {
+    let Ok(()) = roomy else {
         return roomy;
     };
-    Checked::Fine
+    Ok(())
 }
 
 // Multiplies a product out over the words of a system, into a list that may grow to 63 times 63 letters, and answers the word's length.
 fn product_word(system: &[u8], product: &[u8], list: &mut [u8]) -> usize
     requires sizes { (length system.now ≤ 1024) × (length product.now ≡ 64) }
-    requires named { slot_rule (slots system.now) product.now ≡ Fine }
+    requires named { slot_rule (slots system.now) product.now ≡ Ok tt }
     requires room { length list.old ≡ 4096 }
     ensures within { result ≤ 4096 }
     ensures word { take result list.new ≡ product_word system.now product.now }
@@ -87,7 +86,7 @@ fn multiply_out(
     list: &mut [u8],
 ) -> usize
     requires size { length product.now ≡ 64 }
-    requires named { slot_rule n product.now ≡ Fine }
+    requires named { slot_rule n product.now ≡ Ok tt }
     requires held { Held n letters.now lengths.now }
     requires room { length list.old ≡ 4096 }
     ensures within { result ≤ 4096 }

@@ -3,7 +3,7 @@ use Prim.Native.Nat.{◌%◌, ◌*◌, ◌/◌, ◌-◌, ◌<◌, ◌≤◌, ℕ
 use mathlib.Core.Bool.{not}
 use mathlib.Core.List.{List}
 use mathlib.Core.Logic.{inl, inr}
-use mathlib.Core.Option.{none, some}
+use Rattle.std.specs.Prelude.{None, Some}
 use mathlib.Core.Path.{◌∙◌, ◌≡◌, ap, refl, sym}
 use native.Mathlib.Omega.{arith}
 use lib.Dec.{eqb, leb}
@@ -15,8 +15,6 @@ use Rattle.words.proofs.Buffers.{front_part, rest_part}
 use Rattle.systems.proofs.Logic.{bool_cases}
 use Rattle.systems.proofs.Neither.{moves-most}
 use Rattle.records.specs.Refusals.{◌and_then◌, must}
-use Rattle.records.specs.declared.answers.Checked.{Checked}
-use Rattle.records.specs.declared.answers.Checked.TheVariants.{Failed, Fine}
 use Rattle.records.specs.declared.answers.Refusal.{Refusal}
 use Rattle.records.specs.declared.answers.Verdict.{Verdict}
 use Rattle.records.proofs.Chains.{fine_first, fine_next, must_fine}
@@ -31,13 +29,17 @@ use Rattle.lines.specs.Lines.{answer_lines, lines_after, refusal_in, refusal_lin
 use Rattle.printing.proofs.Printing.{prints_as}
 use Rattle.output.specs.Output.{output_from, answer_output, given_system, input_rules, program_log, program_product, program_output, program_words}
 use Rattle.printing.specs.Printing.{Prints}
-use Rattle.printing.specs.declared.answers.Printed.{Printed}
-use Rattle.printing.specs.declared.answers.Printed.TheVariants.{Missing}
+use Rattle.printing.specs.Printing.{Printed}
+use Rattle.printing.specs.declared.answers.Unprinted.TheVariants.{Missing}
+use Rattle.std.specs.Prelude.{Err}
+use Rattle.records.specs.declared.refusals.Reason.TheVariants.{SystemTooLong, SystemUneven, TargetOrProductMalformed}
+use Rattle.std.specs.Prelude.{Err, Ok}
+use Rattle.records.specs.Refusals.{Checked}
 
 -- the moves of an answer of member have room in the log
 reduction_moves : (c : Checked) (v : Verdict) (S : List (List ℕ)) (most : ℕ) → (reduction_of c v S most).moves ≤ most
-reduction_moves Fine v S most = moves-most bytes most S
-reduction_moves (Failed f) v S most = omega arith
+reduction_moves (Ok _) v S most = moves-most bytes most S
+reduction_moves (Err f) v S most = omega arith
 
 pub moves_fit : (s t words log product : List ℕ) (log' : List ℕ) {a : Reduction} → a ≡ member_answer s t words log product → length log' ≡ length log
     → a.moves * 4 ≤ length log'
@@ -91,32 +93,32 @@ module _ (records out : List ℕ) (least : 64 ≤ length records) where
   pub answer_printed : {a : Reduction} {w l p w' l' p' : List ℕ} {r : Printed} {out' : List ℕ}
       → w ≡ program_words → l ≡ program_log → p ≡ program_product → a ≡ member_answer system_part target_part w l p
       → w' ≡ member_words system_part target_part w l p → l' ≡ member_log system_part target_part w l p → p' ≡ member_product system_part target_part w l p
-      → Prints (some (lines_after (refusal_in a.verdict) (answer_lines ((length records - 64) / 64) a w' l' p'))) out r out'
-      → Prints (some (answer_output records)) out r out'
+      → Prints (Some (lines_after (refusal_in a.verdict) (answer_lines ((length records - 64) / 64) a w' l' p'))) out r out'
+      → Prints (Some (answer_output records)) out r out'
   answer_printed lent_words lent_log lent_product answered wrote logged gave h =
-      prints_as (ap some (lines_for_lem system_part target_part _ parts_slots lent_words lent_log lent_product answered wrote logged gave ∙ parts_lines)) h
+      prints_as (ap Some (lines_for_lem system_part target_part _ parts_slots lent_words lent_log lent_product answered wrote logged gave ∙ parts_lines)) h
 
 -- a length that passes is that of a target and of at most 16 records before it
-module _ (size : ℕ) (passed : input_rules size ≡ Fine) where
-  later : must (leb size 1088) 2 0 and_then must (eqb (size % 64) 0) 1 0 ≡ Fine
+module _ (size : ℕ) (passed : input_rules size ≡ Ok tt) where
+  later : must (leb size 1088) SystemTooLong 0 and_then must (eqb (size % 64) 0) SystemUneven 0 ≡ Ok tt
   unfolding input_rules
-  later = fine_next (must (not (eqb size 0)) 6 0) _ passed
+  later = fine_next (must (not (eqb size 0)) TargetOrProductMalformed 0) _ passed
 
   pub size_least : 64 ≤ size
   unfolding input_rules
   size_least =
-      let filled : size ≡ 0 → ⊥ = eqb-false size 0 (not-true (eqb size 0) (must_fine _ 6 0 (fine_first (must (not (eqb size 0)) 6 0) _ passed))) in
-      let whole : size % 64 ≡ 0 = eqb-true _ _ (must_fine _ 1 0 (fine_next (must (leb size 1088) 2 0) _ later)) in
+      let filled : size ≡ 0 → ⊥ = eqb-false size 0 (not-true (eqb size 0) (must_fine _ TargetOrProductMalformed 0 (fine_first (must (not (eqb size 0)) TargetOrProductMalformed 0) _ passed))) in
+      let whole : size % 64 ≡ 0 = eqb-true _ _ (must_fine _ SystemUneven 0 (fine_next (must (leb size 1088) SystemTooLong 0) _ later)) in
       omega arith
 
   pub size-most : size ≤ 1088
-  size-most = leb-true _ _ (must_fine _ 2 0 (fine_first (must (leb size 1088) 2 0) _ later))
+  size-most = leb-true _ _ (must_fine _ SystemTooLong 0 (fine_first (must (leb size 1088) SystemTooLong 0) _ later))
 
   -- fewer bytes were kept, and all were
-  pub kept_missing : (kept out : List ℕ) → length kept < size → Prints (output_from kept size) out Missing out
+  pub kept_missing : (kept out : List ℕ) → length kept < size → Prints (output_from kept size) out (Err Missing) out
   unfolding output_from
   kept_missing kept out h =
-      let none_left : none ≡ output_from kept size = rw (lt-leb size (length kept) h, passed) refl in
+      let none_left : None ≡ output_from kept size = rw (lt-leb size (length kept) h, passed) refl in
       prints_as none_left (record { answered = refl; wrote = refl; most = omega arith })
 
   module _ (kept out : List ℕ) (all : size ≤ length kept) where
@@ -129,16 +131,16 @@ module _ (size : ℕ) (passed : input_rules size ≡ Fine) where
     pub part_most : length (take (size - 0) kept) ≤ 1088
     part_most = rw (front_part kept size, kept_length) size-most
 
-    pub kept_printed : {r : Printed} {out' : List ℕ} → Prints (some (answer_output (take (size - 0) kept))) out r out'
+    pub kept_printed : {r : Printed} {out' : List ℕ} → Prints (Some (answer_output (take (size - 0) kept))) out r out'
         → Prints (output_from kept size) out r out'
     unfolding output_from program_output
     kept_printed h =
-        let whole : some (answer_output (take (size - 0) kept)) ≡ output_from kept size =
+        let whole : Some (answer_output (take (size - 0) kept)) ≡ output_from kept size =
         rw (le-leb size (length kept) all, ap input_rules kept_length, passed, front_part kept size) refl in
         prints_as whole h
 
 -- a refusal of the length
-pub refused_from : (kept : List ℕ) (size : ℕ) {f : Refusal} → input_rules size ≡ Failed f → output_from kept size ≡ some (refusal_line f)
+pub refused_from : (kept : List ℕ) (size : ℕ) {f : Refusal} → input_rules size ≡ Err f → output_from kept size ≡ Some (refusal_line f)
 unfolding output_from program_output
 refused_from kept size refused =
     elim (bool_cases (leb size (length kept))) [
@@ -146,9 +148,9 @@ refused_from kept size refused =
       | inr missing ↦ rw (missing, refused) refl
     ]
 
-pub length-refused : (kept out : List ℕ) (size : ℕ) {x : Checked} {f : Refusal} {r : Printed} {out' : List ℕ} → x ≡ input_rules size → x ≡ Failed f
-    → Prints (some (refusal_line f)) out r out' → Prints (output_from kept size) out r out'
+pub length-refused : (kept out : List ℕ) (size : ℕ) {x : Checked} {f : Refusal} {r : Printed} {out' : List ℕ} → x ≡ input_rules size → x ≡ Err f
+    → Prints (Some (refusal_line f)) out r out' → Prints (output_from kept size) out r out'
 length-refused kept out size told e h = prints_as (sym (refused_from kept size (sym told ∙ e))) h
 
-pub length_passed : (size : ℕ) {x : Checked} → x ≡ input_rules size → x ≡ Fine → input_rules size ≡ Fine
+pub length_passed : (size : ℕ) {x : Checked} → x ≡ input_rules size → x ≡ Ok tt → input_rules size ≡ Ok tt
 length_passed size told e = sym told ∙ e

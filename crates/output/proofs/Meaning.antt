@@ -3,7 +3,7 @@ use Prim.Native.Nat.{◌*◌, ◌-◌, ◌<◌, ◌≤◌, ℕ}
 use mathlib.Core.Bool.{false, true}
 use mathlib.Core.List.{List}
 use mathlib.Core.Logic.{inl, inr}
-use mathlib.Core.Option.{some}
+use Rattle.std.specs.Prelude.{Some}
 use mathlib.Core.Path.{◌∙◌, ◌≡◌, ap, refl, sym}
 use native.Mathlib.Omega.{arith}
 use lib.Dec.{leb}
@@ -14,7 +14,6 @@ use Rattle.words.specs.Alphabet.{bytes}
 use Rattle.systems.specs.Rules.{next, run_within}
 use Rattle.systems.proofs.Logic.{bool_cases, option_cases}
 use Rattle.records.specs.Refusals.{refusal}
-use Rattle.records.specs.declared.answers.Checked.TheVariants.{Failed, Fine}
 use Rattle.records.specs.declared.answers.Refusal.{Refusal}
 use Rattle.slots.specs.Systems.{freely_reduced_words, slots}
 use Rattle.moves.specs.Logs.{move_size}
@@ -29,11 +28,13 @@ use Rattle.lines.specs.Lines.{refusal_in, refusal_line}
 use Rattle.output.specs.Meaning.{Decided, PrintMeans, WellFormed}
 use Rattle.output.specs.Output.{answer, answer_output, given_system, given_target, input_rules, log, output_from, program_log, product, program_product, program_output, words, program_words}
 use Rattle.printing.specs.Printing.{Prints}
-use Rattle.printing.specs.declared.answers.Printed.{Printed}
+use Rattle.printing.specs.Printing.{Printed}
 use Rattle.output.proofs.Calling.{refused_from, size-most}
+use Rattle.records.specs.declared.refusals.Reason.TheVariants.{LogBufferShort, SystemTooLong}
+use Rattle.std.specs.Prelude.{Err, Ok}
 
 -- a length over 1,088 is refused with 2
-long_refused : (n : ℕ) → 1088 < n → input_rules n ≡ refusal 2 0
+long_refused : (n : ℕ) → 1088 < n → input_rules n ≡ refusal SystemTooLong 0
 unfolding input_rules
 long_refused n h = rw (ne_eqb n 0 (omega arith), lt-leb n 1088 h) refl
 
@@ -51,25 +52,25 @@ module _ (input kept : List ℕ) (size : ℕ) (holds : Holds input kept size) (r
       let before : i < size = omega (arith, length-take size kept) in
       get_or-take size kept i 0 before ∙ holds.first i (omega arith) (omega arith) (omega arith))
 
-  refused_output : (f : Refusal) → input_rules (length input) ≡ Failed f → output_from kept size ≡ some (program_output input)
+  refused_output : (f : Refusal) → input_rules (length input) ≡ Err f → output_from kept size ≡ Some (program_output input)
   unfolding program_output
-  refused_output f e = refused_from kept size (rules_same (length input) size holds.count ∙ e) ∙ ap some (sym (rw e refl))
+  refused_output f e = refused_from kept size (rules_same (length input) size holds.count ∙ e) ∙ ap Some (sym (rw e refl))
 
-  long_output : 1088 < length input → output_from kept size ≡ some (program_output input)
-  long_output h = refused_output (record { number = 2; place = 0 }) (long_refused (length input) h)
+  long_output : 1088 < length input → output_from kept size ≡ Some (program_output input)
+  long_output h = refused_output (record { reason = SystemTooLong; place = 0 }) (long_refused (length input) h)
 
-  output_of_lem : CountOf (length input) size → output_from kept size ≡ some (program_output input)
+  output_of_lem : CountOf (length input) size → output_from kept size ≡ Some (program_output input)
   unfolding output_from
   output_of_lem (inl e) =
       elim (bool_cases (leb size 1088)) [
         | inl short ↦
             let few : size ≤ 1088 = leb-true size 1088 short in
-            rw (le-leb size (length kept) (omega arith)) (ap (λ (l : List ℕ). some (program_output l)) (same-input e few))
+            rw (le-leb size (length kept) (omega arith)) (ap (λ (l : List ℕ). Some (program_output l)) (same-input e few))
         | inr long ↦ let many : 1088 < size = leb-false size 1088 long in long_output (omega arith)
       ]
   output_of_lem (inr e) = long_output e.1
 
-  pub held_output : output_from kept size ≡ some (program_output input)
+  pub held_output : output_from kept size ≡ Some (program_output input)
   held_output = output_of_lem holds.count
 
 -- the buffers that the program lends have room
@@ -85,7 +86,7 @@ product-room : length program_product ≡ 64
 unfolding program_product
 product-room = length-replicate {A = ℕ} 64 0
 
-unrefused : (a : Reduction) → Answered a.verdict → refusal_in a.verdict ≡ Fine
+unrefused : (a : Reduction) → Answered a.verdict → refusal_in a.verdict ≡ Ok tt
 unrefused a (inl e) = rw e refl
 unrefused a (inr e) = rw e refl
 
@@ -128,7 +129,7 @@ module _ (input : List ℕ) (formed : WellFormed input) where
         reduces = means.reduces told;
       }
 
-  pub output_short : (EnoughMoves (given_system input) 16384 → ⊥) → program_output input ≡ refusal_line (record { number = 13; place = 0 })
+  pub output_short : (EnoughMoves (given_system input) 16384 → ⊥) → program_output input ≡ refusal_line (record { reason = LogBufferShort; place = 0 })
   unfolding program_output answer_output
   output_short more =
       let room : room_for program_log ≡ 16384 = rw log-room refl in

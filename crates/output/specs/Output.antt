@@ -1,13 +1,14 @@
 -- The program's whole output, from its whole input.
 use Rattle.std.specs.Prelude.{◌%◌, ◌-◌, ℕ, cond, not, List, eqb, leb, drop, length, replicate, take}
-use Rattle.std.proofs.Math.Option.{Option, none, some}
+use Rattle.std.specs.Prelude.{None, Option, Some}
 use Rattle.records.specs.Refusals.{◌and_then◌, must}
-use Rattle.records.specs.declared.answers.Checked.{Checked}
-use Rattle.records.specs.declared.answers.Checked.TheVariants.{Failed, Fine}
 use Rattle.slots.specs.Systems.{slots}
 use Rattle.reduction.specs.declared.answers.Reduction.{Reduction}
 use Rattle.membership.specs.Membership.{member_answer, member_log, member_product, member_words}
 use Rattle.lines.specs.Lines.{answer_lines, lines_after, refusal_in, refusal_line}
+use Rattle.records.specs.declared.refusals.Reason.TheVariants.{SystemTooLong, SystemUneven, TargetOrProductMalformed}
+use Rattle.std.specs.Prelude.{Err, Ok}
+use Rattle.records.specs.Refusals.{Checked}
 
 -- "The program takes the last record on its standard input as the target and the earlier ones as the system"
 abbrev pub given_system : List ℕ → List ℕ
@@ -18,7 +19,7 @@ given_target input = drop (length input - 64) input
 
 -- "no input at all gets 6, more than 1,088 bytes, those of 17 records, get 2, and then a length not a multiple of 64 gets 1"
 unfoldable pub input_rules : ℕ → Checked
-input_rules n = must (not (eqb n 0)) 6 0 and_then must (leb n 1088) 2 0 and_then must (eqb (n % 64) 0) 1 0
+input_rules n = must (not (eqb n 0)) TargetOrProductMalformed 0 and_then must (leb n 1088) SystemTooLong 0 and_then must (eqb (n % 64) 0) SystemUneven 0
 
 -- the buffers that the program lends to member, with room for 16 records, for the moves and for a product: "Its log buffer holds 16,384 moves."
 -- None of these zeros is printed.
@@ -54,9 +55,9 @@ program_output input = lines_after (input_rules (length input)) (answer_output i
 
 -- the output where fewer bytes were kept than the length says: a refusal of the length
 abbrev pub length_output : Checked → Option (List ℕ)
-length_output Fine = none
-length_output (Failed f) = some (refusal_line f)
+length_output (Ok _) = None
+length_output (Err f) = Some (refusal_line f)
 
 -- the output, from the bytes kept and the length of the input; none where the length is not refused and fewer bytes were kept
 unfoldable pub output_from : List ℕ → ℕ → Option (List ℕ)
-output_from kept size = cond (leb size (length kept)) (some (program_output (take size kept))) (length_output (input_rules size))
+output_from kept size = cond (leb size (length kept)) (Some (program_output (take size kept))) (length_output (input_rules size))

@@ -2,8 +2,6 @@
 #![tactic(auto)]
 
 ghost use Rattle.std.specs.Prelude.{◌≤◌, ℕ, List, ◌≡◌, length};
-ghost use Rattle.std.proofs.Math.Option.{some};
-ghost use Rattle.records.specs.declared.answers.Checked.TheVariants.{Fine};
 ghost use Rattle.input.specs.Input.{Holds};
 ghost use Rattle.output.specs.Meaning.{PrintMeans};
 ghost use Rattle.output.specs.Output.{answer_output, input_rules, output_from};
@@ -11,14 +9,14 @@ ghost use Rattle.printing.specs.Printing.{Prints, printed_answer, printed_buffer
 
 use input::LONGEST;
 use membership::member;
-use printing::answers::Printed;
+use printing::answers::Unprinted;
 use printing::{print_reduction, print_refusal};
-use records::answers::{Checked, check_that};
+use records::answers::{Refusal, check_that};
 use records::record::RECORD;
-use records::refusals::{SYSTEM_TOO_LONG, SYSTEM_UNEVEN, TARGET_OR_PRODUCT_MALFORMED};
+use records::refusals::Reason;
 
 // Writes the program's output into a lent buffer, from the bytes kept of its input and the input's length as it was counted.
-pub fn print(kept: &[u8], size: usize, out: &mut [u8]) -> Printed
+pub fn print(kept: &[u8], size: usize, out: &mut [u8]) -> Result<usize, Unprinted>
     ensures answer { result ≡ printed_answer (output_from kept.now size) (length out.old) }
     ensures out { out.new ≡ printed_buffer (output_from kept.now size) out.old }
     ensures means { (input : List ℕ) → Holds input kept.now size → 1088 ≤ length kept.now → 66704 ≤ length out.old → PrintMeans input out.old result out.new }
@@ -27,50 +25,50 @@ pub fn print(kept: &[u8], size: usize, out: &mut [u8]) -> Printed
 }
 
 // The same, by the definitions of the answer and of the buffer alone.
-fn print_input(kept: &[u8], size: usize, out: &mut [u8]) -> Printed
+fn print_input(kept: &[u8], size: usize, out: &mut [u8]) -> Result<usize, Unprinted>
     ensures { Prints (output_from kept.now size) out.old result out.new }
 {
     let checked = check_input(size);
-    let Checked::Failed(refusal) = checked else {
+    let Err(refusal) = checked else {
         return print_kept(kept, size, out);
     };
     print_refusal(refusal, out)
 }
 
 // Refusals 6, 2 and 1 by the length of the input.
-fn check_input(size: usize) -> Checked
+fn check_input(size: usize) -> Result<(), Refusal>
     ensures { result ≡ input_rules size }
 {
-    let some = check_that(size != 0, TARGET_OR_PRODUCT_MALFORMED, 0);
-    let Checked::Fine = some else {
+    let some = check_that(size != 0, Reason::TargetOrProductMalformed, 0);
+    let Ok(()) = some else {
         return some;
     };
-    let short = check_that(size <= LONGEST, SYSTEM_TOO_LONG, 0);
-    let Checked::Fine = short else {
+    let short = check_that(size <= LONGEST, Reason::SystemTooLong, 0);
+    let Ok(()) = short else {
         return short;
     };
-    let even = check_that(size % RECORD == 0, SYSTEM_UNEVEN, 0);
-    let Checked::Fine = even else {
+    let even = check_that(size % RECORD == 0, Reason::SystemUneven, 0);
+    let Ok(()) = even else {
         return even;
     };
-    Checked::Fine
+    Ok(())
 }
 
 // Prints the answer to an input whose length is not refused, where all of it was kept.
-fn print_kept(kept: &[u8], size: usize, out: &mut [u8]) -> Printed
-    requires { input_rules size ≡ Fine }
+fn print_kept(kept: &[u8], size: usize, out: &mut [u8]) -> Result<usize, Unprinted>
+    requires { input_rules size ≡ Ok tt }
     ensures { Prints (output_from kept.now size) out.old result out.new }
 {
     if kept.len() < size {
-        return Printed::Missing;
+        return Err(Unprinted::Missing);
     }
     print_answer(&kept[0..size], out)
 }
 
 // Asks member about the last record, with the earlier ones as the system, and prints its answer.
-fn print_answer(records: &[u8], out: &mut [u8]) -> Printed
+fn print_answer(records: &[u8], out: &mut [u8]) -> Result<usize, Unprinted>
     requires { (64 ≤ length records.now) × (length records.now ≤ 1088) }
-    ensures { Prints (some (answer_output records.now)) out.old result out.new }
+    ensures { Prints (Some (answer_output records.now)) out.old result out.new }
 {
     let mut words = [0u8; 1024];
     let mut log = [0u8; 65536];

@@ -2,7 +2,7 @@
 use Prim.Native.Nat.{◌+◌, ◌≤◌, suc, ℕ}
 use mathlib.Core.Path.{◌∙◌, ◌≡◌, ap, refl, sym}
 use mathlib.Core.Bool.{Bool, false, true}
-use mathlib.Core.Option.{Option, none, some}
+use Rattle.std.specs.Prelude.{None, Option, Some}
 use mathlib.Core.List.{List, [], ◌++◌, ◌∷◌}
 use native.Mathlib.Omega.{arith}
 use lib.ListN.{length}
@@ -52,7 +52,7 @@ number_for plain h = omega arith
 number_for (raised minus d) h = h
 
 pub raise_for : (p : Power) (o : Option (List ℕ)) → raised_by (exponent_for p) o ≡ powered_of p o
-raise_for plain none = refl
-raise_for plain (some w) = refl
-raise_for (raised minus d) none = refl
-raise_for (raised minus d) (some w) = refl
+raise_for plain None = refl
+raise_for plain (Some w) = refl
+raise_for (raised minus d) None = refl
+raise_for (raised minus d) (Some w) = refl

@@ -3,7 +3,7 @@ use Prim.Native.Nat.{suc, zero, ℕ}
 use mathlib.Core.Path.{◌∙◌, ◌≡◌, ap, refl, sym}
 use mathlib.Core.Logic.{inl, inr}
 use mathlib.Core.Bool.{Bool, ◌&&◌, cond, false, true}
-use mathlib.Core.Option.{Option, none, some}
+use Rattle.std.specs.Prelude.{None, Option, Some}
 use mathlib.Core.List.{List, [], ◌++◌, ◌∷◌, append_assoc, append-nil}
 use Rattle.words.specs.Alphabet.{bytes}
 use Rattle.words.specs.Words.{freely_reduce, inverse, signed}
@@ -21,7 +21,7 @@ abbrev free : List ℕ → List ℕ
 free w = freely_reduce bytes w
 
 abbrev pub only_if : Bool → List ℕ → Option (List ℕ)
-only_if b w = cond b (some w) none
+only_if b w = cond b (Some w) None
 
 -- words that are freely reduced to the same word
 free_append : (u v : List ℕ) → free (free u ++ free v) ≡ free (u ++ v)
@@ -52,25 +52,25 @@ within_same : (u v : List ℕ) → free u ≡ free v → within u ≡ within v
 unfolding within
 within_same u v e = rw e
 
-within_yes : (w : List ℕ) → short w ≡ true → within w ≡ some (free w)
+within_yes : (w : List ℕ) → short w ≡ true → within w ≡ Some (free w)
 unfolding within
 within_yes w e = rw e
 
-within_no : (w : List ℕ) → short w ≡ false → within w ≡ none
+within_no : (w : List ℕ) → short w ≡ false → within w ≡ None
 unfolding within
 within_no w e = rw e
 
-read_none : (t : Product) → read_after none t ≡ none
+read_none : (t : Product) → read_after None t ≡ None
 read_none nothing = refl
 read_none (letter x p t) = read_none t
 read_none (group u p t) = read_none t
 read_none (bracket u v p t) = read_none t
 
-powered-none : (p : Power) → powered_of p none ≡ none
+powered-none : (p : Power) → powered_of p None ≡ None
 powered-none plain = refl
 powered-none (raised minus d) = refl
 
-powered_some : (p : Power) (f : List ℕ) → short f ≡ true → powered_of p (some (free f)) ≡ within (powered p f)
+powered_some : (p : Power) (f : List ℕ) → short f ≡ true → powered_of p (Some (free f)) ≡ within (powered p f)
 powered_some plain f h = sym (within_yes f h)
 powered_some (raised minus d) f h = within_same (powered (raised minus d) (free f)) (powered (raised minus d) f) (free_powered (raised minus d) f)
 
@@ -83,12 +83,12 @@ short-append (w ∷ us) vs = elim (bool_cases (short w)) [
 
 -- a factor after a word, and the product after it
 module _ (w : List ℕ) (p : Power) (t : Product)
-    (ih : (v : List ℕ) → short v ≡ true → read_after (some (free v)) t ≡ only_if (all_short (measured_after v t)) (free (v ++ tree_word t))) where
-  factor_none : read_after (join_of (some (free w)) (powered_of p none)) t ≡ none
+    (ih : (v : List ℕ) → short v ≡ true → read_after (Some (free v)) t ≡ only_if (all_short (measured_after v t)) (free (v ++ tree_word t))) where
+  factor_none : read_after (join_of (Some (free w)) (powered_of p None)) t ≡ None
   factor_none = rw (powered-none p) (read_none t)
 
   factor_says : (f : List ℕ) → short f ≡ true
-      → read_after (join_of (some (free w)) (powered_of p (some (free f)))) t
+      → read_after (join_of (Some (free w)) (powered_of p (Some (free f)))) t
       ≡ only_if (all_short (factor_measured w p f ++ measured_after (w ++ powered p f) t)) (free (w ++ (powered p f ++ tree_word t)))
   factor_says f h =
       let g : List ℕ = powered p f in
@@ -125,7 +125,7 @@ whole-short (bracket u v p t) w h e =
     factor_whole w p (commutator (tree_word u) (tree_word v)) t (whole-short t) (after-short (measured v) _ (after-short (measured u) _ e))
 
 -- the word of a tree after a word
-read_says : (t : Product) (w : List ℕ) → short w ≡ true → read_after (some (free w)) t ≡ only_if (all_short (measured_after w t)) (free (w ++ tree_word t))
+read_says : (t : Product) (w : List ℕ) → short w ≡ true → read_after (Some (free w)) t ≡ only_if (all_short (measured_after w t)) (free (w ++ tree_word t))
 read_says nothing w h = rw append-nil
 read_says (letter x p t) w h = factor_says w p t (read_says t) (x ∷ []) refl
 read_says (group u p t) w h = elim (bool_cases (all_short (measured u))) [
@@ -147,6 +147,6 @@ read_says (bracket u v p t) w h =
       ]
     ]
 
-pub read_word : (t : Product) → read_after (some []) t ≡ only_if (fits t) (free (tree_word t))
+pub read_word : (t : Product) → read_after (Some []) t ≡ only_if (fits t) (free (tree_word t))
 unfolding fits
 read_word t = read_says t [] refl

@@ -2,7 +2,7 @@
 use Prim.Native.Nat.{◌*◌, ◌+◌, ◌-◌, ◌<◌, ◌^◌, ◌≤◌, suc, zero, ℕ}
 use mathlib.Core.Path.{◌∙◌, ◌≡◌, ap, refl, sym}
 use mathlib.Core.Bool.{Bool, false, not, true}
-use mathlib.Core.Option.{Option, some}
+use Rattle.std.specs.Prelude.{Option, Some}
 use mathlib.Core.List.{List, [], ◌++◌, ◌∷◌, append_assoc}
 use native.Mathlib.Omega.{arith}
 use lib.ListN.{drop, get_or, length, length-append, length-drop, take}
@@ -162,7 +162,7 @@ pub record Onward (room : ℕ) (text : List ℕ) (word : Word) (at : ℕ) (t : P
   pub tree : Product
   pub starts : StartsWith room (drop at text) tree rest
   pub used : length (spelled t) ≡ at + length (spelled tree)
-  pub same : read_after (word_in word) tree ≡ read_after (some []) t
+  pub same : read_after (word_in word) tree ≡ read_after (Some []) t
 
 pub record ProductKept (room : ℕ) (text : List ℕ) (word : Word) (at : ℕ) : Type 0 where
   pub inside : at ≤ length text
@@ -426,13 +426,13 @@ module _ (room : ℕ) (text : List ℕ) (full : 0 < length text) (begins : start
     pub letter_power : Readable room text → (exponent_of (drop 1 text)).number ≤ 63
     letter_power r = number_at (letter_here text full begins room r.tree r.rest r.starts no-group no-bracket).power_at
 
-    pub read_letter : (word : Word) (r : Reading) → word_in word ≡ some (get_or text 0 0 ∷ []) → PowerReads text 1 word r → FactorReads room text r
+    pub read_letter : (word : Word) (r : Reading) → word_in word ≡ Some (get_or text 0 0 ∷ []) → PowerReads text 1 word r → FactorReads room text r
     read_letter word r w q t rest h =
         let l = letter_here text full begins room t rest h no-group no-bracket in
         let a = l.power_at in
         rw l.is (record {
           used = q.used ∙ rw (a.same, used_for);
-          word = q.word ∙ rw (a.same, w, l.here) (raise_for l.power (some (l.byte ∷ [])));
+          word = q.word ∙ rw (a.same, w, l.here) (raise_for l.power (Some (l.byte ∷ [])));
         })
 
   module _ (opens : get_or text 0 0 ≡ 40) where
@@ -467,7 +467,7 @@ module _ (room : ℕ) (text : List ℕ) (full : 0 < length text) (begins : start
           let e : exponent_of (drop (inner.used + 2) text) ≡ exponent_for g.power = rw f.used g.power_at.same in
           rw g.is (record {
             used = q.used ∙ rw (e, used_for, f.used);
-            word = q.word ∙ rw (e, f.word) (raise_for g.power (read_after (some []) g.inner));
+            word = q.word ∙ rw (e, f.word) (raise_for g.power (read_after (Some []) g.inner));
           })
 
 -- the bracket reader's text
@@ -527,7 +527,7 @@ module _ (room : ℕ) (text : List ℕ) (opens : get_or text 0 0 ≡ 91) where
           let e : exponent_of (drop (u.used + 2 + v.used + 1) text) ≡ exponent_for g.power = rw (a.used, b.used) g.power_at.same in
           rw g.is (record {
             used = q.used ∙ rw (e, used_for, a.used, b.used);
-            word = q.word ∙ rw (e, w, a.word, b.word) (raise_for g.power (commute_of (read_after (some []) g.one) (read_after (some []) g.two)));
+            word = q.word ∙ rw (e, w, a.word, b.word) (raise_for g.power (commute_of (read_after (Some []) g.one) (read_after (Some []) g.two)));
           })
 
 pub read_bracket : (room : ℕ) (text : List ℕ) (u v r : Reading) (word : Word) → PowerReads text (u.used + 2 + v.used + 1) word r

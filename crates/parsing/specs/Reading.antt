@@ -1,6 +1,6 @@
 -- What the product reader and the factor reader find at the beginning of a text. No public contract speaks of it.
 use Rattle.std.specs.Prelude.{◌+◌, ℕ, ◌≡◌, Bool, ◌||◌, cond, false, List, [], ◌++◌, ◌∷◌, eqb, drop, length}
-use Rattle.std.proofs.Math.Option.{Option, some}
+use Rattle.std.specs.Prelude.{Option, Some}
 use Rattle.records.specs.Records.{is_letter}
 use Rattle.syntax.specs.Trees.{Power, Product, Proper, bracket, group, is_digit, letter, nothing, plain, raised, spelled, spelled_power}
 use Rattle.syntax.specs.TreeWords.{number_of}
@@ -20,9 +20,9 @@ powered_of (raised minus d) w = raise_of minus (number_of d) w
 -- the word of a product after the word of what stands before it; none where 12 is due
 abbrev pub read_after : Option (List ℕ) → Product → Option (List ℕ)
 read_after w nothing = w
-read_after w (letter x p t) = read_after (join_of w (powered_of p (some (x ∷ [])))) t
-read_after w (group u p t) = read_after (join_of w (powered_of p (read_after (some []) u))) t
-read_after w (bracket u v p t) = read_after (join_of w (powered_of p (commute_of (read_after (some []) u) (read_after (some []) v)))) t
+read_after w (letter x p t) = read_after (join_of w (powered_of p (Some (x ∷ [])))) t
+read_after w (group u p t) = read_after (join_of w (powered_of p (read_after (Some []) u))) t
+read_after w (bracket u v p t) = read_after (join_of w (powered_of p (commute_of (read_after (Some []) u) (read_after (Some []) v)))) t
 
 -- a byte that starts a factor
 abbrev pub starts_factor : ℕ → Bool
@@ -49,7 +49,7 @@ pub record Readable (room : ℕ) (text : List ℕ) : Type 0 where
 -- a whole product was read
 pub record ReadAll (t : Product) (r : Reading) : Type 0 where
   pub used : r.used ≡ length (spelled t)
-  pub word : word_in r.word ≡ read_after (some []) t
+  pub word : word_in r.word ≡ read_after (Some []) t
 
 abbrev pub ProductReads : ℕ → List ℕ → Reading → Type 0
 ProductReads room text r = (t : Product) (rest : List ℕ) → StartsWith room text t rest → ReadAll t r
@@ -62,10 +62,10 @@ first_size (group u p t) = group_size u + length (spelled_power p)
 first_size (bracket u v p t) = bracket_size u v + length (spelled_power p)
 
 abbrev pub first_word : Product → Option (List ℕ)
-first_word nothing = some []
-first_word (letter x p t) = powered_of p (some (x ∷ []))
-first_word (group u p t) = powered_of p (read_after (some []) u)
-first_word (bracket u v p t) = powered_of p (commute_of (read_after (some []) u) (read_after (some []) v))
+first_word nothing = Some []
+first_word (letter x p t) = powered_of p (Some (x ∷ []))
+first_word (group u p t) = powered_of p (read_after (Some []) u)
+first_word (bracket u v p t) = powered_of p (commute_of (read_after (Some []) u) (read_after (Some []) v))
 
 pub record ReadFirst (t : Product) (r : Reading) : Type 0 where
   pub used : r.used ≡ first_size t

@@ -3,7 +3,7 @@
 use Prim.Native.Nat.{◌+◌, ◌-◌, ◌<◌, ◌≤◌, suc, zero, ℕ}
 use mathlib.Core.Bool.{true}
 use mathlib.Core.List.{List, ◌++◌, append_assoc, append-nil}
-use mathlib.Core.Option.{none, some}
+use Rattle.std.specs.Prelude.{None, Some}
 use mathlib.Core.Path.{◌∙◌, ◌≡◌, ap, sym}
 use native.Mathlib.Nat.{le_antisymm}
 use native.Mathlib.Numerals.{add-one}
@@ -45,11 +45,11 @@ module _ (row : List ℕ) (size : ℕ) (inside : size ≤ length row) (freely : 
     kept_short h = rw (copied, freely, length-take-le size row inside, le-leb size 63 h)
 
 -- the word that a struct holds
-pub too_long_none : (w : Word) → 63 < w.length → word_in w ≡ none
+pub too_long_none : (w : Word) → 63 < w.length → word_in w ≡ None
 unfolding word_in
 too_long_none w h = rw (lt-leb w.length 63 h)
 
-pub fits_some : (w : Word) → w.length ≤ 63 → word_in w ≡ some (take (w.length - 0) w.letters)
+pub fits_some : (w : Word) → w.length ≤ 63 → word_in w ≡ Some (take (w.length - 0) w.letters)
 unfolding word_in
 fits_some w h = rw (le-leb w.length 63 h, front_part w.letters w.length)
 
@@ -89,13 +89,13 @@ module _ (row after : List ℕ) (size both : ℕ) (word : Word) (sound : Sound (
   pub both_long : 63 < both → word_in (held after 64) ≡ join_of (word_in (held row size)) (word_in word)
   unfolding within word_in
   both_long h =
-      let e : within (take both after) ≡ none = rw (both_freely_reduced, both_length, lt-leb both 63 h) in
+      let e : within (take both after) ≡ None = rw (both_freely_reduced, both_length, lt-leb both 63 h) in
       sym e ∙ both_within
 
   pub both_short : both ≤ 63 → word_in (held after both) ≡ join_of (word_in (held row size)) (word_in word)
   unfolding within word_in
   both_short h =
-      let e : within (take both after) ≡ some (take both after) = rw (both_freely_reduced, both_length, le-leb both 63 h) in
+      let e : within (take both after) ≡ Some (take both after) = rw (both_freely_reduced, both_length, le-leb both 63 h) in
       let l : leb both 63 ≡ true = le-leb both 63 h in
       rw l (sym e ∙ both_within)
 

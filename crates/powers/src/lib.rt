@@ -2,7 +2,6 @@
 #![tactic(auto)]
 
 ghost use Rattle.std.specs.Prelude.{◌≤◌, [], ◌++◌, ◌∷◌, ◌≡◌, length, take};
-ghost use Rattle.std.proofs.Math.Option.{some};
 ghost use Rattle.words.specs.Alphabet.{bytes};
 ghost use Rattle.words.specs.Words.{freely_reduce, signed};
 ghost use Rattle.syntax.specs.TreeWords.{commutator, times as copies};
@@ -24,7 +23,7 @@ pub struct Word {
 // The word of one letter.
 pub fn single(b: u8) -> Word
     ensures sound { Sound result }
-    ensures word { word_in result ≡ some (b ∷ []) }
+    ensures word { word_in result ≡ Some (b ∷ []) }
 {
     let mut letters = [0u8; 128];
     letters[0] = b;

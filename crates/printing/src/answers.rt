@@ -1,10 +1,8 @@
 // What printing answers.
 
-// The whole output was written, with so many bytes; or nothing was, because the output has so many bytes and the lent buffer fewer, or
-// because the input's length is not refused and fewer bytes were kept.
-#[derive(Clone, Copy)]
-pub enum Printed {
-    Whole(usize),
+// Why no output was written: it has so many bytes and the lent buffer fewer, or the input's length is not refused and fewer bytes were kept.
+#[derive(Clone, Copy, Debug, PartialEq, Eq)]
+pub enum Unprinted {
     Short(usize),
     Missing,
 }

@@ -2,14 +2,13 @@
 #![tactic(auto)]
 
 ghost use Rattle.std.specs.Prelude.{◌*◌, ◌≤◌, cond, ◌++◌, ◌≡◌, length};
-ghost use Rattle.std.proofs.Math.Option.{some};
 ghost use Rattle.lines.specs.Lines.{answer_lines, is_member, lines_after, refusal_in, refusal_line};
 ghost use Rattle.printing.specs.Printing.{Prints};
 
-use crate::answers::Printed;
+use crate::answers::Unprinted;
 use lines::{LINE, first_line, is_member, put, refusal_in, refusal_line};
 use moves::log::MOVE;
-use records::answers::{Checked, Refusal, Verdict};
+use records::answers::{Refusal, Verdict};
 use records::record::RECORD;
 use reduction::answers::Reduction;
 
@@ -23,13 +22,13 @@ pub fn print_reduction(
     log: &[u8],
     product: &[u8],
     out: &mut [u8],
-) -> Printed
+) -> Result<usize, Unprinted>
     requires { (n ≤ 16) × (n * 64 ≤ length words.now) × (answer.moves * 4 ≤ length log.now) × (length log.now ≤ 65536) × (length product.now ≡ 64) }
-    ensures { Prints (some (lines_after (refusal_in answer.verdict) (answer_lines n answer words.now log.now product.now))) out.old result out.new }
+    ensures { Prints (Some (lines_after (refusal_in answer.verdict) (answer_lines n answer words.now log.now product.now))) out.old result out.new }
 {
     let verdict = answer.verdict;
     let checked = refusal_in(verdict);
-    let Checked::Failed(refusal) = checked else {
+    let Err(refusal) = checked else {
         return print_lines(answer, n, words, log, product, out);
     };
     print_refusal(refusal, out)
@@ -43,9 +42,9 @@ fn print_lines(
     log: &[u8],
     product: &[u8],
     out: &mut [u8],
-) -> Printed
+) -> Result<usize, Unprinted>
     requires { (n ≤ 16) × (n * 64 ≤ length words.now) × (answer.moves * 4 ≤ length log.now) × (length log.now ≤ 65536) × (length product.now ≡ 64) }
-    ensures { Prints (some (answer_lines n answer words.now log.now product.now)) out.old result out.new }
+    ensures { Prints (Some (answer_lines n answer words.now log.now product.now)) out.old result out.new }
 {
     let mut line = [0u8; LINE];
     let first = first_line(answer, &mut line);
@@ -71,8 +70,8 @@ fn product_size(verdict: Verdict) -> usize
 }
 
 // Prints one line that says why the input is refused.
-pub fn print_refusal(refusal: Refusal, out: &mut [u8]) -> Printed
-    ensures { Prints (some (refusal_line refusal)) out.old result out.new }
+pub fn print_refusal(refusal: Refusal, out: &mut [u8]) -> Result<usize, Unprinted>
+    ensures { Prints (Some (refusal_line refusal)) out.old result out.new }
 {
     let mut line = [0u8; LINE];
     let size = refusal_line(refusal, &mut line);
@@ -80,17 +79,23 @@ pub fn print_refusal(refusal: Refusal, out: &mut [u8]) -> Printed
 }
 
 // Writes the parts of an output one after the other, where there is room for them all.
-fn print_parts(line: &[u8], words: &[u8], log: &[u8], product: &[u8], out: &mut [u8]) -> Printed
+fn print_parts(
+    line: &[u8],
+    words: &[u8],
+    log: &[u8],
+    product: &[u8],
+    out: &mut [u8],
+) -> Result<usize, Unprinted>
     requires { (length line.now ≤ 80) × (length words.now ≤ 1024) × (length log.now ≤ 65536) × (length product.now ≤ 64) }
-    ensures { Prints (some (line.now ++ words.now ++ log.now ++ product.now)) out.old result out.new }
+    ensures { Prints (Some (line.now ++ words.now ++ log.now ++ product.now)) out.old result out.new }
 {
     let size = line.len() + words.len() + log.len() + product.len();
     if out.len() < size {
-        return Printed::Short(size);
+        return Err(Unprinted::Short(size));
     }
     let first = put(line, out, 0);
     let second = put(words, out, first);
     let third = put(log, out, second);
     put(product, out, third);
-    Printed::Whole(size)
+    Ok(size)
 }

@@ -10,10 +10,11 @@ use native.Mathlib.Omega.{arith}
 use borrow.Author.Tests.{not-false, not-true}
 use Rattle.records.specs.Answers.{answer_of, on_fine}
 use Rattle.records.specs.declared.answers.Answer.{Answer}
-use Rattle.records.specs.declared.answers.Checked.{Checked}
-use Rattle.records.specs.declared.answers.Checked.TheVariants.{Failed, Fine}
 use Rattle.records.specs.declared.answers.Refusal.{Refusal}
 use Rattle.records.specs.Refusals.{◌and_then◌, each_below, must, refusal}
+use Rattle.std.specs.Prelude.{Err, Ok}
+use Rattle.records.specs.Refusals.{Checked}
+use Rattle.records.specs.declared.refusals.Reason.{Reason}
 
 -- the outcome of a test that a callee made
 pub told_false : {t : Bool} {u : Bool} → t ≡ u → not t ≡ true → u ≡ false
@@ -23,85 +24,85 @@ pub told_true : {t : Bool} {u : Bool} → t ≡ u → not t ≡ false → u ≡ 
 told_true {t} e h = sym e ∙ not-false t h
 
 -- a chain of tests: the first that fails decides, and where one is passed the rest does
-pub then_failed : {r : Checked} (c d : Checked) {f : Refusal} → r ≡ c → r ≡ Failed f → r ≡ c and_then d
+pub then_failed : {r : Checked} (c d : Checked) {f : Refusal} → r ≡ c → r ≡ Err f → r ≡ c and_then d
 then_failed c d e h = rw (← e, h)
 
-pub then_fine : {q r : Checked} (c d : Checked) → q ≡ c → q ≡ Fine → r ≡ d → r ≡ c and_then d
+pub then_fine : {q r : Checked} (c d : Checked) → q ≡ c → q ≡ Ok tt → r ≡ d → r ≡ c and_then d
 then_fine c d e h k = rw (← e, h, k)
 
-pub then_end : {q : Checked} (c : Checked) → q ≡ c → q ≡ Fine → Fine ≡ c
+pub then_end : {q : Checked} (c : Checked) → q ≡ c → q ≡ Ok tt → Ok tt ≡ c
 then_end c e h = sym h ∙ e
 
-pub must_pass : (b : Bool) (n at : ℕ) → b ≡ true → must b n at ≡ Fine
+pub must_pass : (b : Bool) (n : Reason) (at : ℕ) → b ≡ true → must b n at ≡ Ok tt
 must_pass b n at e = rw e
 
-pub must_told : {b d : Bool} (n at : ℕ) {x : Checked} → b ≡ d → x ≡ must b n at → x ≡ must d n at
+pub must_told : {b d : Bool} (n : Reason) (at : ℕ) {x : Checked} → b ≡ d → x ≡ must b n at → x ≡ must d n at
 must_told n at e h = rw (← e) h
 
-pub must_fine : (b : Bool) (n at : ℕ) → must b n at ≡ Fine → b ≡ true
+pub must_fine : (b : Bool) (n : Reason) (at : ℕ) → must b n at ≡ Ok tt → b ≡ true
 must_fine true n at e = refl
 must_fine false n at e = let z : ◌≡◌ {A = ℕ} 0 1 = cc in absurd (omega arith)
 
-pub must_passed : (b : Bool) (n at : ℕ) {x : Checked} → x ≡ must b n at → x ≡ Fine → b ≡ true
+pub must_passed : (b : Bool) (n : Reason) (at : ℕ) {x : Checked} → x ≡ must b n at → x ≡ Ok tt → b ≡ true
 must_passed b n at e h = must_fine b n at (sym e ∙ h)
 
-pub must-refused : (b : Bool) (n at : ℕ) {x : Checked} {f : Refusal} → x ≡ must b n at → x ≡ Failed f → (b ≡ false) × (x ≡ refusal n at)
+pub must-refused : (b : Bool) (n : Reason) (at : ℕ) {x : Checked} {f : Refusal} → x ≡ must b n at → x ≡ Err f → (b ≡ false) × (x ≡ refusal n at)
 must-refused false n at e h = (refl, e)
 must-refused true n at e h = let z : ◌≡◌ {A = ℕ} 0 1 = cc in absurd (omega arith)
 
-pub must_fail : (b : Bool) (n at : ℕ) {x : Checked} → b ≡ false → x ≡ refusal n at → x ≡ must b n at
+pub must_fail : (b : Bool) (n : Reason) (at : ℕ) {x : Checked} → b ≡ false → x ≡ refusal n at → x ≡ must b n at
 must_fail b n at e h = rw e h
 
 -- a chain of tests that is passed: each of them is
-pub fine_first : (c d : Checked) → c and_then d ≡ Fine → c ≡ Fine
-fine_first Fine d e = refl
-fine_first (Failed f) d e = e
+pub fine_first : (c d : Checked) → c and_then d ≡ Ok tt → c ≡ Ok tt
+fine_first (Ok _) d e = refl
+fine_first (Err f) d e = e
 
-pub fine_next : (c d : Checked) → c and_then d ≡ Fine → d ≡ Fine
-fine_next Fine d e = e
-fine_next (Failed f) d e = let z : ◌≡◌ {A = ℕ} 0 1 = cc in absurd (omega arith)
+pub fine_next : (c d : Checked) → c and_then d ≡ Ok tt → d ≡ Ok tt
+fine_next (Ok _) d e = e
+fine_next (Err f) d e = let z : ◌≡◌ {A = ℕ} 0 1 = cc in absurd (omega arith)
 
 -- the answer of a call, and a lent buffer after it, from what its tests found
 pub answered : {x : Checked} {a : Answer} (c : Checked) → x ≡ c → a ≡ answer_of x → a ≡ answer_of c
 answered c e f = f ∙ ap answer_of e
 
-pub unchanged : {x : Checked} {f : Refusal} (c : Checked) (new old : List ℕ) → x ≡ c → x ≡ Failed f → old ≡ on_fine c new old
+pub unchanged : {x : Checked} {f : Refusal} (c : Checked) (new old : List ℕ) → x ≡ c → x ≡ Err f → old ≡ on_fine c new old
 unchanged c new old e h = rw (sym e ∙ h)
 
-pub changed : {x : Checked} {y : List ℕ} (c : Checked) (new old : List ℕ) → x ≡ c → x ≡ Fine → y ≡ new → y ≡ on_fine c new old
+pub changed : {x : Checked} {y : List ℕ} (c : Checked) (new old : List ℕ) → x ≡ c → x ≡ Ok tt → y ≡ new → y ≡ on_fine c new old
 changed c new old e h told = rw (sym e ∙ h) told
 
 pub never : {P : Type 0} → false ≡ true → P
 never e = absurd (true≢false (sym e))
 
 -- where the first tests are known to be passed
-pub passed_changed : {y : List ℕ} (c : Checked) (new old : List ℕ) → c ≡ Fine → y ≡ new → y ≡ on_fine c new old
+pub passed_changed : {y : List ℕ} (c : Checked) (new old : List ℕ) → c ≡ Ok tt → y ≡ new → y ≡ on_fine c new old
 passed_changed c new old e told = rw e told
 
-pub passed_then : {r : Checked} (c d : Checked) → c ≡ Fine → r ≡ d → r ≡ c and_then d
+pub passed_then : {r : Checked} (c d : Checked) → c ≡ Ok tt → r ≡ d → r ≡ c and_then d
 passed_then c d e k = rw e k
 
 -- a walk over numbered tests: the first that fails decides
 module _ (check : ℕ → Checked) where
-  each_stays : (d k : ℕ) {f : Refusal} → each_below check k ≡ Failed f → each_below check (d + k) ≡ Failed f
+  each_stays : (d k : ℕ) {f : Refusal} → each_below check k ≡ Err f → each_below check (d + k) ≡ Err f
   each_stays zero k e = rw zero-add e
   each_stays (suc d) k e = rw (suc-add, each_stays d k e)
 
-  module _ (k : ℕ) (passed : each_below check k ≡ Fine) where
-    pub each_pass : {x : Checked} → x ≡ check k → x ≡ Fine → each_below check (k + 1) ≡ Fine
+  module _ (k : ℕ) (passed : each_below check k ≡ Ok tt) where
+    pub each_pass : {x : Checked} → x ≡ check k → x ≡ Ok tt → each_below check (k + 1) ≡ Ok tt
     each_pass e good = rw (add-one, passed, ← e) good
 
-    pub each_fail : {x : Checked} {f : Refusal} (n : ℕ) → k < n → x ≡ check k → x ≡ Failed f → x ≡ each_below check n
+    pub each_fail : {x : Checked} {f : Refusal} (n : ℕ) → k < n → x ≡ check k → x ≡ Err f → x ≡ each_below check n
     each_fail {f = f} n h e bad =
         let count : n - suc k + suc k ≡ n = omega arith in
-        let here : each_below check (suc k) ≡ Failed f = rw passed (sym e ∙ bad) in
+        let here : each_below check (suc k) ≡ Err f = rw passed (sym e ∙ bad) in
         bad ∙ sym (ap (each_below check) (sym count) ∙ each_stays (n - suc k) (suc k) here)
 
-    pub each_end : (n : ℕ) → n ≤ k → k ≤ n → Fine ≡ each_below check n
+    pub each_end : (n : ℕ) → n ≤ k → k ≤ n → Ok tt ≡ each_below check n
     each_end n l h = rw (le_antisymm l h) (sym passed)
 
   -- it passes exactly when each of them does
-  pub each_passed : (n k : ℕ) → each_below check n ≡ Fine → k < n → check k ≡ Fine
+  pub each_passed : (n k : ℕ) → each_below check n ≡ Ok tt → k < n → check k ≡ Ok tt
   each_passed zero k e h = absurd (omega arith)
   each_passed (suc n) k e h = elim (dec_lt k n) [
     | yes l ↦ each_passed n k (fine_first (each_below check n) _ e) l
@@ -110,6 +111,6 @@ module _ (check : ℕ → Checked) where
         rw last (fine_next (each_below check n) _ e)
   ]
 
-  pub each_passes : (n : ℕ) → ((k : ℕ) → k < n → check k ≡ Fine) → each_below check n ≡ Fine
+  pub each_passes : (n : ℕ) → ((k : ℕ) → k < n → check k ≡ Ok tt) → each_below check n ≡ Ok tt
   each_passes zero all = refl
   each_passes (suc n) all = rw (each_passes n (λ k h. all k (omega arith)), all n (omega arith))

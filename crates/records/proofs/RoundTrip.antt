@@ -16,9 +16,10 @@ use Rattle.words.proofs.FreeReduction.{push_cancel, push_keep}
 use Rattle.words.proofs.Inverse.{inverse-cons, inverse-nil}
 use Rattle.records.specs.Records.{before_stop, blanks, is_letter, is_letter_or_stop, is_stop, record_of, word_of}
 use Rattle.records.specs.Refusals.{byte_rule, end_rule, letters_rule, must, order_rule, record_rules}
-use Rattle.records.specs.declared.answers.Checked.TheVariants.{Fine}
 use Rattle.records.proofs.Chains.{fine_first, fine_next, must_fine}
 use Rattle.records.proofs.Rules.{letter_above, letter-below, letter_between, letter_left, letter_passed}
+use Rattle.records.specs.declared.refusals.Reason.TheVariants.{NeitherLetterNorStop}
+use Rattle.std.specs.Prelude.{Ok}
 
 -- a word of letters alone
 abbrev pub AllLetters : List ℕ → Type 0
@@ -91,20 +92,20 @@ before-length (b ∷ r) = go (is_stop b) refl (before-length r)
 pub word-short : (r : List ℕ) → length (word_of r) ≤ 63
 word-short r = omega (arith, before-length (take 63 r), length-take 63 r)
 
-before_letters : (r : List ℕ) (at : ℕ) → byte_rule r at ≡ Fine → AllLetters (before_stop r)
+before_letters : (r : List ℕ) (at : ℕ) → byte_rule r at ≡ Ok tt → AllLetters (before_stop r)
 before_letters [] at e = tt
 before_letters (b ∷ r) at e =
-    go (is_stop b) refl (before_letters r (at + 1) (fine_next (must (is_letter_or_stop b) 4 at) (byte_rule r (at + 1)) e))
+    go (is_stop b) refl (before_letters r (at + 1) (fine_next (must (is_letter_or_stop b) NeitherLetterNorStop at) (byte_rule r (at + 1)) e))
   where
     first : is_letter_or_stop b ≡ true
-    first = must_fine (is_letter_or_stop b) 4 at (fine_first (must (is_letter_or_stop b) 4 at) (byte_rule r (at + 1)) e)
+    first = must_fine (is_letter_or_stop b) NeitherLetterNorStop at (fine_first (must (is_letter_or_stop b) NeitherLetterNorStop at) (byte_rule r (at + 1)) e)
 
     go : (t : Bool) → is_stop b ≡ t → AllLetters (before_stop r) → AllLetters (before_stop (b ∷ r))
     go true h rest = rw h tt
     go false h rest = rw h (letter_left b first h, rest)
 
 -- the word of a record that passes its tests is made of letters alone
-pub record_letters : (r : List ℕ) (at : ℕ) → record_rules r at ≡ Fine → AllLetters (word_of r)
+pub record_letters : (r : List ℕ) (at : ℕ) → record_rules r at ≡ Ok tt → AllLetters (word_of r)
 unfolding record_rules letters_rule
 record_letters r at e =
     before_letters (take 63 r) at (fine_first (byte_rule (take 63 r) at) (order_rule (take 63 r) at) (fine_next (end_rule r at) _ e))
@@ -118,16 +119,16 @@ before_back : (w : List ℕ) (n : ℕ) → AllLetters w → before_stop (w ++ bl
 before_back [] n a = before-blanks n
 before_back (b ∷ w) n a = rw (letter_unstopped b a.0, before_back w n a.1)
 
-stops_passed : (n at : ℕ) → letters_rule (blanks n) at ≡ Fine
+stops_passed : (n at : ℕ) → letters_rule (blanks n) at ≡ Ok tt
 unfolding letters_rule
 stops_passed zero at = refl
 stops_passed (suc n) at = go n at
   where
-    go : (n at : ℕ) → letters_rule (blanks (suc n)) at ≡ Fine
+    go : (n at : ℕ) → letters_rule (blanks (suc n)) at ≡ Ok tt
     go zero at = refl
     go (suc n) at = go n (at + 1)
 
-word_passed : (w : List ℕ) (n at : ℕ) → AllLetters w → letters_rule (w ++ blanks n) at ≡ Fine
+word_passed : (w : List ℕ) (n at : ℕ) → AllLetters w → letters_rule (w ++ blanks n) at ≡ Ok tt
 word_passed [] n at a = stops_passed n at
 word_passed (b ∷ w) n at a = letter_passed b (w ++ blanks n) at a.0 ∙ word_passed w n (at + 1) a.1
 
@@ -145,6 +146,6 @@ module _ (w : List ℕ) (short : length w ≤ 63) where
   pub word_back : AllLetters w → word_of (record_of w) ≡ w
   word_back a = ap before_stop record_filled ∙ before_back w (63 - length w) a
 
-  pub record_passes : (at : ℕ) → AllLetters w → record_rules (record_of w) at ≡ Fine
+  pub record_passes : (at : ℕ) → AllLetters w → record_rules (record_of w) at ≡ Ok tt
   unfolding record_rules
   record_passes at a = rw (eq-eqb _ _ record_feed, record_filled) (word_passed w (63 - length w) at a)

@@ -15,10 +15,12 @@ use Rattle.words.proofs.Buffers.{drop_here, rest_part}
 use Rattle.records.specs.Records.{before_stop, is_letter, is_letter_or_stop, is_stop, not_letter, word_of}
 use Rattle.records.specs.Refusals.{byte_rule, each_byte, letters_rule, must, refusal}
 use Rattle.records.specs.Stops.{stops_rule}
-use Rattle.records.specs.declared.answers.Checked.{Checked}
-use Rattle.records.specs.declared.answers.Checked.TheVariants.{Failed, Fine}
 use Rattle.records.specs.declared.answers.Refusal.{Refusal}
 use Rattle.records.proofs.Chains.{fine_first, must_fine, must_passed, must-refused, then_failed, then_fine, told_false, told_true}
+use Rattle.records.specs.declared.refusals.Reason.TheVariants.{LetterAfterStop, NeitherLetterNorStop}
+use Rattle.std.specs.Prelude.{Err, Ok}
+use Rattle.records.specs.Refusals.{Checked}
+use Rattle.records.specs.declared.refusals.Reason.{Reason}
 
 -- a byte is a letter or not, by where it stands
 module _ (b : ℕ) where
@@ -56,20 +58,20 @@ next_place : (at i : ℕ) → at + i + 1 ≡ at + (i + 1)
 next_place at i = add_assoc at i 1
 
 -- a test on each byte of a list, whose outcome at the present byte is t
-module _ (test : ℕ → Bool) (n : ℕ) (s : List ℕ) (at : ℕ) where
+module _ (test : ℕ → Bool) (n : Reason) (s : List ℕ) (at : ℕ) where
   pub bytes_begin : each_byte test n s at ≡ each_byte test n (drop 0 s) (at + 0)
   bytes_begin = rw add-zero
 
   module _ (i : ℕ) (here : each_byte test n s at ≡ each_byte test n (drop i s) (at + i)) where
-    pub bytes_end : length s ≤ i → Fine ≡ each_byte test n s at
+    pub bytes_end : length s ≤ i → Ok tt ≡ each_byte test n s at
     bytes_end l = rw (here, drop_of_length-le s l)
 
     module _ (inside : i < length s) where
       module _ {x : Checked} (e : x ≡ must (test (get_or s i 0)) n (at + i)) where
-        pub bytes_fail : {f : Refusal} → x ≡ Failed f → x ≡ each_byte test n s at
+        pub bytes_fail : {f : Refusal} → x ≡ Err f → x ≡ each_byte test n s at
         bytes_fail bad = rw (here, drop_here s i inside) (then_failed _ _ e bad)
 
-        pub bytes_pass : x ≡ Fine → each_byte test n s at ≡ each_byte test n (drop (i + 1) s) (at + (i + 1))
+        pub bytes_pass : x ≡ Ok tt → each_byte test n s at ≡ each_byte test n (drop (i + 1) s) (at + (i + 1))
         bytes_pass good = rw (here, drop_here s i inside, must_passed (test (get_or s i 0)) n (at + i) e good, next_place)
 
 -- a letter decides neither rule
@@ -95,7 +97,7 @@ module _ (s : List ℕ) (at : ℕ) where
   stops_begin = rw add-zero
 
   module _ (i : ℕ) (here : letters_rule s at ≡ letters_rule (drop i s) (at + i)) where
-    pub letters_end : length s ≤ i → Fine ≡ letters_rule s at
+    pub letters_end : length s ≤ i → Ok tt ≡ letters_rule s at
     unfolding letters_rule
     letters_end l = rw (here, drop_of_length-le s l)
 
@@ -111,11 +113,11 @@ module _ (s : List ℕ) (at : ℕ) where
           ∙ ap (λ (l : List ℕ). letters_rule l (at + i)) (rest_part s i) ∙ sym here
 
   module _ (i : ℕ) (here : stops_rule s at ≡ stops_rule (drop i s) (at + i)) where
-    pub stops_end : length s ≤ i → Fine ≡ stops_rule s at
+    pub stops_end : length s ≤ i → Ok tt ≡ stops_rule s at
     unfolding stops_rule
     stops_end l = rw (here, drop_of_length-le s l)
 
-    pub stops-more : {x : Checked} → i < length s → x ≡ must (eqb (get_or s i 0) 46) 5 (at + i) → x ≡ Fine
+    pub stops-more : {x : Checked} → i < length s → x ≡ must (eqb (get_or s i 0) 46) LetterAfterStop (at + i) → x ≡ Ok tt
         → stops_rule s at ≡ stops_rule (drop (i + 1) s) (at + (i + 1))
     unfolding stops_rule
     stops-more inside e h = rw (here, drop_here s i inside, eqb-true (get_or s i 0) 46 (must_passed _ _ _ e h), next_place)
@@ -124,7 +126,7 @@ module _ (s : List ℕ) (at : ℕ) where
     stops-rest h = h ∙ ap (λ (l : List ℕ). stops_rule l (at + i)) (rest_part s i) ∙ sym here
 
 -- a byte that is no full stop is left, and the refusal at its place
-module _ (s : List ℕ) (i n at : ℕ) {x : Checked} {f : Refusal} (e : x ≡ must (eqb (get_or s i 0) 46) n at) (h : x ≡ Failed f) where
+module _ (s : List ℕ) (i : ℕ) (n : Reason) (at : ℕ) {x : Checked} {f : Refusal} (e : x ≡ must (eqb (get_or s i 0) 46) n at) (h : x ≡ Err f) where
   pub rest-first : get_or (take (length s - i) (drop i s)) 0 0 ≡ 46 → ⊥
   rest-first stop = true≢false (sym (eq-eqb _ _ (sym (first_of s i) ∙ stop)) ∙ (must-refused (eqb (get_or s i 0) 46) n at e h).0)
 
@@ -135,18 +137,18 @@ pub rest_filled : (s : List ℕ) (i : ℕ) → i < length s → 0 < length (take
 rest_filled s i inside = rw (rest_part s i, length-drop i s) (omega arith)
 
 module _ (s : List ℕ) (at : ℕ) where
-  pub rest-bytes : {x : Checked} {f : Refusal} → x ≡ byte_rule s at → x ≡ Failed f → x ≡ stops_rule s at
+  pub rest-bytes : {x : Checked} {f : Refusal} → x ≡ byte_rule s at → x ≡ Err f → x ≡ stops_rule s at
   unfolding stops_rule
   rest-bytes e h = then_failed _ _ e h
 
-  pub rest-letter : {q x : Checked} → (get_or s 0 0 ≡ 46 → ⊥) → 0 < length s → q ≡ byte_rule s at → q ≡ Fine → x ≡ refusal 5 at → x ≡ stops_rule s at
+  pub rest-letter : {q x : Checked} → (get_or s 0 0 ≡ 46 → ⊥) → 0 < length s → q ≡ byte_rule s at → q ≡ Ok tt → x ≡ refusal LetterAfterStop at → x ≡ stops_rule s at
   unfolding stops_rule
   rest-letter n filled e h told = then_fine _ _ e h (told ∙ sym (first-letter s n filled (sym e ∙ h)))
     where
-      first-letter : (r : List ℕ) → (get_or r 0 0 ≡ 46 → ⊥) → 0 < length r → byte_rule r at ≡ Fine → each_byte not_letter 5 r at ≡ refusal 5 at
+      first-letter : (r : List ℕ) → (get_or r 0 0 ≡ 46 → ⊥) → 0 < length r → byte_rule r at ≡ Ok tt → each_byte not_letter LetterAfterStop r at ≡ refusal LetterAfterStop at
       first-letter [] n filled fine = absurd (omega arith)
       first-letter (b ∷ r) n filled fine =
-          let good : is_letter_or_stop b ≡ true = must_fine (is_letter_or_stop b) 4 at (fine_first (must (is_letter_or_stop b) 4 at) _ fine) in
+          let good : is_letter_or_stop b ≡ true = must_fine (is_letter_or_stop b) NeitherLetterNorStop at (fine_first (must (is_letter_or_stop b) NeitherLetterNorStop at) _ fine) in
           rw (letter_left b good (ne_eqb b 46 n))
 
 -- a list with no full stop among its first n bytes

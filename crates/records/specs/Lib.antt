@@ -1,4 +1,5 @@
 pub mod Records
+pub mod Reasons
 pub mod Answers
 pub mod Refusals
 pub mod Stops

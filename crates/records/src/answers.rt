@@ -1,24 +1,29 @@
 // What a call answers: a verdict, and with a refusal its number and its place.
 ghost use Rattle.std.specs.Prelude.{◌≡◌};
 ghost use Rattle.records.specs.Answers.{answer_of};
-ghost use Rattle.records.specs.Refusals.{must};
+ghost use Rattle.records.specs.Reasons.{number_of};
+ghost use Rattle.records.specs.Refusals.{must, refusal};
 
-// A refusal: its number, and the place that it names.
-#[derive(Clone, Copy)]
+use crate::refusals::Reason;
+
+// A refusal: its reason, which has a number, and the place that it names.
+#[derive(Clone, Copy, Debug, PartialEq, Eq)]
 pub struct Refusal {
-    pub number: u8,
+    pub reason: Reason,
     pub place: usize,
 }
 
-// What a test finds: nothing, or the refusal that ends the call.
-#[derive(Clone, Copy)]
-pub enum Checked {
-    Fine,
-    Failed(Refusal),
+impl Refusal {
+    // The number of the refusal.
+    pub fn number(self) -> u8
+        ensures { result ≡ number_of self.reason }
+    {
+        u8::from(self.reason)
+    }
 }
 
 // The verdict that every answer carries.
-#[derive(Clone, Copy)]
+#[derive(Clone, Copy, Debug, PartialEq, Eq)]
 pub enum Verdict {
     Done,
     Member,
@@ -27,38 +32,34 @@ pub enum Verdict {
 }
 
 // The answer of a call that gives nothing but its verdict.
-#[derive(Clone, Copy)]
+#[derive(Clone, Copy, Debug, PartialEq, Eq)]
 pub struct Answer {
     pub verdict: Verdict,
 }
 
 // A refusal as the outcome of a test.
-pub fn refuse(number: u8, place: usize) -> Checked
-    ensures { result ≡ Checked.Failed (record { number = number; place = place }) }
+pub fn refuse(reason: Reason, place: usize) -> Result<(), Refusal>
+    ensures { result ≡ refusal reason place }
 {
-    Checked::Failed(Refusal { number, place })
+    Err(Refusal { reason, place })
 }
 
-// No refusal where a condition holds, and otherwise the one with this number and place.
-pub fn check_that(holds: bool, number: u8, place: usize) -> Checked
-    ensures { result ≡ must holds number place }
+// No refusal where a condition holds, and otherwise the one with this reason and place.
+pub fn check_that(holds: bool, reason: Reason, place: usize) -> Result<(), Refusal>
+    ensures { result ≡ must holds reason place }
 {
-    if holds {
-        Checked::Fine
-    } else {
-        refuse(number, place)
-    }
+    if holds { Ok(()) } else { refuse(reason, place) }
 }
 
 // The answer of a call that gives nothing but its verdict, from what its tests found.
-pub fn answer_of(checked: Checked) -> Answer
+pub fn answer_of(checked: Result<(), Refusal>) -> Answer
     ensures { result ≡ answer_of checked }
 {
     match checked {
-        Checked::Fine => Answer {
+        Ok(()) => Answer {
             verdict: Verdict::Done,
         },
-        Checked::Failed(refusal) => Answer {
+        Err(refusal) => Answer {
             verdict: Verdict::Refused(refusal),
         },
     }

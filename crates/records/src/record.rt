@@ -4,10 +4,8 @@ ghost use Rattle.records.specs.Records.{blanks, is_letter, is_letter_or_stop, re
 ghost use Rattle.records.specs.Refusals.{as_six, byte_rule, letters_rule, record_rules, refusal, target_rules};
 ghost use Rattle.records.specs.Stops.{stops_rule};
 
-use crate::answers::{Checked, check_that, refuse};
-use crate::refusals::{
-    LETTER_AFTER_STOP, NEITHER_LETTER_NOR_STOP, NO_LINE_FEED, TARGET_OR_PRODUCT_MALFORMED,
-};
+use crate::answers::{Refusal, check_that, refuse};
+use crate::refusals::Reason;
 use words::letters::copy;
 
 // The bytes of a record, and of one slot of a system.
@@ -39,45 +37,45 @@ fn is_letter_or_stop(b: u8) -> bool
 }
 
 // Refusals 3 to 5 on a record that starts at a place of its buffer.
-pub fn check_record(bytes: &[u8], at: usize) -> Checked
+pub fn check_record(bytes: &[u8], at: usize) -> Result<(), Refusal>
     requires size { length bytes.now ≡ 64 }
     requires place { at ≤ 4096 }
     ensures { result ≡ record_rules bytes.now at }
 {
-    let ended = check_that(bytes[63] == LINE_FEED, NO_LINE_FEED, at + 63);
-    let Checked::Fine = ended else {
+    let ended = check_that(bytes[63] == LINE_FEED, Reason::NoLineFeed, at + 63);
+    let Ok(()) = ended else {
         return ended;
     };
     check_letters(&bytes[0..63], at)
 }
 
 // Refusal 6.
-pub fn check_target(target: &[u8]) -> Checked
+pub fn check_target(target: &[u8]) -> Result<(), Refusal>
     ensures { result ≡ target_rules target.now }
 {
-    let sized = check_that(target.len() == RECORD, TARGET_OR_PRODUCT_MALFORMED, 0);
-    let Checked::Fine = sized else {
+    let sized = check_that(target.len() == RECORD, Reason::TargetOrProductMalformed, 0);
+    let Ok(()) = sized else {
         return sized;
     };
     let checked = check_record(target, 0);
-    let Checked::Fine = checked else {
+    let Ok(()) = checked else {
         return as_target(checked);
     };
-    Checked::Fine
+    Ok(())
 }
 
 // A refusal of a record as refusal 6, at the same place.
-fn as_target(checked: Checked) -> Checked
+fn as_target(checked: Result<(), Refusal>) -> Result<(), Refusal>
     ensures { result ≡ as_six checked }
 {
     match checked {
-        Checked::Fine => Checked::Fine,
-        Checked::Failed(refusal) => refuse(TARGET_OR_PRODUCT_MALFORMED, refusal.place),
+        Ok(()) => Ok(()),
+        Err(refusal) => refuse(Reason::TargetOrProductMalformed, refusal.place),
     }
 }
 
 // Refusals 4 and 5 on the bytes before the line feed: first the letters.
-fn check_letters(letters: &[u8], at: usize) -> Checked
+fn check_letters(letters: &[u8], at: usize) -> Result<(), Refusal>
     requires size { length letters.now ≤ 64 }
     requires place { at ≤ 4096 }
     ensures { result ≡ letters_rule letters.now at }
@@ -90,55 +88,59 @@ fn check_letters(letters: &[u8], at: usize) -> Checked
         }
         i += 1;
     }
-    Checked::Fine
+    Ok(())
 }
 
 // Then the full stops: refusal 5 at the first byte after them, unless 4 goes before it.
-fn check_stops(bytes: &[u8], at: usize) -> Checked
+fn check_stops(bytes: &[u8], at: usize) -> Result<(), Refusal>
     requires size { length bytes.now ≤ 64 }
     requires place { at ≤ 8192 }
     ensures { result ≡ stops_rule bytes.now at }
 {
     let mut i = 0;
     while i < bytes.len() {
-        let ordered = check_that(bytes[i] == STOP, LETTER_AFTER_STOP, at + i);
-        let Checked::Fine = ordered else {
+        let ordered = check_that(bytes[i] == STOP, Reason::LetterAfterStop, at + i);
+        let Ok(()) = ordered else {
             return check_rest(&bytes[i..], at + i, ordered);
         };
         i += 1;
     }
-    Checked::Fine
+    Ok(())
 }
 
 // What comes after the full stops breaks a rule: 4 where a byte is neither a letter nor a full stop, or else 5 at the first.
-fn check_rest(bytes: &[u8], at: usize, ordered: Checked) -> Checked
+fn check_rest(bytes: &[u8], at: usize, ordered: Result<(), Refusal>) -> Result<(), Refusal>
     requires size_and_place { (length bytes.now ≤ 64) × (at ≤ 16384) }
     requires begins_with_no_stop { (get_or bytes.now 0 0 ≡ 46 → ⊥) × (0 < length bytes.now) }
-    requires refusal_5 { ordered ≡ refusal 5 at }
+    requires refusal_5 { ordered ≡ refusal Reason.LetterAfterStop at }
     ensures { result ≡ stops_rule bytes.now at }
 {
     let checked = check_bytes(bytes, at);
-    let Checked::Fine = checked else {
+    let Ok(()) = checked else {
         return checked;
     };
     ordered
 }
 
 // Refusal 4: every byte is a letter or a full stop.
-fn check_bytes(bytes: &[u8], at: usize) -> Checked
+fn check_bytes(bytes: &[u8], at: usize) -> Result<(), Refusal>
     requires size { length bytes.now ≤ 64 }
     requires place { at ≤ 16384 }
     ensures { result ≡ byte_rule bytes.now at }
 {
     let mut i = 0;
     while i < bytes.len() {
-        let checked = check_that(is_letter_or_stop(bytes[i]), NEITHER_LETTER_NOR_STOP, at + i);
-        let Checked::Fine = checked else {
+        let checked = check_that(
+            is_letter_or_stop(bytes[i]),
+            Reason::NeitherLetterNorStop,
+            at + i,
+        );
+        let Ok(()) = checked else {
             return checked;
         };
         i += 1;
     }
-    Checked::Fine
+    Ok(())
 }
 
 // The length of the word in a record.

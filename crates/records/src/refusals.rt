@@ -1,34 +1,34 @@
-// The refusals by name. Their meanings and places are in docs/REQUIREMENTS.md; show's, 14, has no answer that could carry a number.
-pub const SYSTEM_UNEVEN: u8 = 1;
+// Why a call is refused, by name; each reason has its number. Their meanings and places are in docs/REQUIREMENTS.md; show's, 14, has no answer
+// that could carry it.
+ghost use Rattle.std.specs.Prelude.{◌≡◌};
+ghost use Rattle.records.specs.Reasons.{number_of};
 
-pub const SYSTEM_TOO_LONG: u8 = 2;
+#[derive(Clone, Copy, Debug, PartialEq, Eq)]
+pub enum Reason {
+    SystemUneven = 1,
+    SystemTooLong = 2,
+    NoLineFeed = 3,
+    NeitherLetterNorStop = 4,
+    LetterAfterStop = 5,
+    TargetOrProductMalformed = 6,
+    LogUneven = 7,
+    LogRecordMalformed = 8,
+    SlotMissing = 9,
+    WordsBufferShort = 10,
+    ProductBufferShort = 11,
+    WordTooLong = 12,
+    LogBufferShort = 13,
+    SystemNotReduced = 15,
+    TextMalformed = 16,
+    NestingTooDeep = 17,
+    ExponentOutOfRange = 18,
+}
 
-pub const NO_LINE_FEED: u8 = 3;
+// The number of a refusal.
+impl From<Reason> for u8 {
+    ghost from_gives = { λ reason number. number ≡ number_of reason };
 
-pub const NEITHER_LETTER_NOR_STOP: u8 = 4;
-
-pub const LETTER_AFTER_STOP: u8 = 5;
-
-pub const TARGET_OR_PRODUCT_MALFORMED: u8 = 6;
-
-pub const LOG_UNEVEN: u8 = 7;
-
-pub const LOG_RECORD_MALFORMED: u8 = 8;
-
-pub const SLOT_MISSING: u8 = 9;
-
-pub const WORDS_BUFFER_SHORT: u8 = 10;
-
-pub const PRODUCT_BUFFER_SHORT: u8 = 11;
-
-pub const WORD_TOO_LONG: u8 = 12;
-
-pub const LOG_BUFFER_SHORT: u8 = 13;
-
-pub const SYSTEM_NOT_REDUCED: u8 = 15;
-
-pub const TEXT_MALFORMED: u8 = 16;
-
-pub const NESTING_TOO_DEEP: u8 = 17;
-
-pub const EXPONENT_OUT_OF_RANGE: u8 = 18;
+    fn from(reason: Reason) -> u8 {
+        reason as u8
+    }
+}

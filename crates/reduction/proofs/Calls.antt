@@ -1,4 +1,7 @@
 -- The calls reduce and test: their tests and answers, and the rank of words held in arrays.
+use Rattle.std.specs.Prelude.{Option, is_none, is_some}
+use Rattle.systems.proofs.Logic.{told_none}
+use mathlib.Core.Bool.{not}
 use Prim.Native.Nat.{◌*◌, ◌+◌, ◌<◌, ◌≤◌, ℕ}
 use mathlib.Core.Bool.{Bool}
 use mathlib.Core.List.{List}
@@ -15,8 +18,6 @@ use Rattle.systems.specs.Rank.{none_blank, rank}
 use Rattle.systems.specs.Rules.{moves_within, run_within}
 use Rattle.systems.proofs.Rank.{rank_full}
 use Rattle.systems.proofs.Runs.{rank_blank, rank-word}
-use Rattle.records.specs.declared.answers.Checked.{Checked}
-use Rattle.records.specs.declared.answers.Checked.TheVariants.{Failed, Fine}
 use Rattle.records.specs.declared.answers.Refusal.{Refusal}
 use Rattle.records.specs.declared.answers.Verdict.{Verdict}
 use Rattle.records.specs.declared.answers.Verdict.TheVariants.{Done}
@@ -24,14 +25,15 @@ use Rattle.slots.specs.Held.{held, held_word}
 use Rattle.slots.specs.Refusals.{system_rules}
 use Rattle.slots.specs.Systems.{bytes_of, freely_reduced_words}
 use Rattle.slots.proofs.Systems.{system-size}
-use Rattle.moves.specs.Found.{found_move}
-use Rattle.moves.specs.declared.found.Found.{Found}
+use Rattle.systems.specs.declared.Move.{Move}
 use Rattle.moves.specs.Logs.{log_of}
-use Rattle.runs.specs.Runs.{FoundNext, is_none, stopped}
+use Rattle.runs.specs.Runs.{FoundNext, stopped}
 use Rattle.reduction.specs.Reduction.{reduction_of, refused_reduction, refused_test, summed, test_answer, tested_of}
 use Rattle.reduction.specs.declared.answers.Reduction.{Reduction}
 use Rattle.reduction.specs.declared.answers.Tested.{Tested}
 use Rattle.reduction.specs.declared.reduce.Summary.{Summary}
+use Rattle.std.specs.Prelude.{Err, Ok}
+use Rattle.records.specs.Refusals.{Checked}
 
 -- the rank of the first words
 module _ (letters lengths : List ℕ) (n k count : ℕ) (here : count ≡ rank (held k letters lengths)) where
@@ -84,10 +86,10 @@ module _ (s : List ℕ) (S : List (List ℕ)) (given : S ≡ freely_reduced_word
 
 -- the answer by what the tests found
 module _ (c : Checked) (v : Verdict) (S : List (List ℕ)) (most : ℕ) {x : Checked} (e : x ≡ c) where
-  pub answer-refused : {a : Reduction} {f : Refusal} → x ≡ Failed f → a ≡ refused_reduction x → a ≡ reduction_of c v S most
+  pub answer-refused : {a : Reduction} {f : Refusal} → x ≡ Err f → a ≡ refused_reduction x → a ≡ reduction_of c v S most
   answer-refused h told = told ∙ ap refused_reduction h ∙ sym (ap (λ (d : Checked). reduction_of d v S most) (sym e ∙ h))
 
-  pub answer-given : {a : Reduction} {u : Verdict} (z : Summary) → x ≡ Fine → a ≡ summed z u → u ≡ v → z.moves ≡ length (moves_within bytes most S)
+  pub answer-given : {a : Reduction} {u : Verdict} (z : Summary) → x ≡ Ok tt → a ≡ summed z u → u ≡ v → z.moves ≡ length (moves_within bytes most S)
       → z.rank ≡ rank (run_within bytes most S) → z.independent ≡ none_blank (run_within bytes most S) → a ≡ reduction_of c v S most
   answer-given z h told same em er en =
       told ∙ (λ i. record { verdict = same i; moves = em i; rank = er i; independent = en i })
@@ -99,19 +101,19 @@ pub run_stored : (letters lengths out words : List ℕ) (n : ℕ) (T : List (Lis
 run_stored letters lengths out words n T same e = e ∙ ap (λ (U : List (List ℕ)). written (bytes_of U) words) same
 
 -- what a system that passes tells of its length
-pub system-size_told : (s : List ℕ) {x : Checked} → x ≡ system_rules s → x ≡ Fine → length s ≤ 1024
+pub system-size_told : (s : List ℕ) {x : Checked} → x ≡ system_rules s → x ≡ Ok tt → length s ≤ 1024
 system-size_told s e h = system-size s (sym e ∙ h)
 
 -- words to which the search finds no move
-pub found-stopped : (n : ℕ) (T : List (List ℕ)) (r : Found) {b : Bool} → FoundNext n T r → b ≡ is_none (found_move r) → b ≡ stopped T
-found-stopped n T r told same = same ∙ ap is_none told.found
+pub found-stopped : (n : ℕ) (T : List (List ℕ)) (r : Option Move) {b : Bool} → FoundNext n T r → is_some r ≡ not b → b ≡ stopped T
+found-stopped n T r told same = told_none r same ∙ ap is_none told.found
 
 -- test
 module _ (s : List ℕ) {x : Checked} (e : x ≡ system_rules s) where
-  pub test_refused : {f : Refusal} {a : Tested} → x ≡ Failed f → a ≡ refused_test x → a ≡ test_answer s
+  pub test_refused : {f : Refusal} {a : Tested} → x ≡ Err f → a ≡ refused_test x → a ≡ test_answer s
   test_refused h told = told ∙ ap refused_test h ∙ sym (ap (λ (c : Checked). tested_of c (freely_reduced_words s)) (sym e ∙ h))
 
-  pub test_given : (T : List (List ℕ)) {b : Bool} → x ≡ Fine → T ≡ freely_reduced_words s → b ≡ stopped T
+  pub test_given : (T : List (List ℕ)) {b : Bool} → x ≡ Ok tt → T ≡ freely_reduced_words s → b ≡ stopped T
       → ◌≡◌ {A = Tested} (record { verdict = Done; reduced = b }) (test_answer s)
   test_given T h given same =
       (λ i. record { verdict = Done; reduced = (same ∙ ap stopped given) i })

@@ -1,10 +1,11 @@
 -- What the answers of reduce and test mean: their exact definitions, taken with the laws of runs, say what is demanded of them.
 -- A run that comes to its end leaves short words of letters, which are read back from the bytes written, and replay takes its log both ways.
+use Rattle.std.specs.Prelude.{is_none}
 use Prim.Native.Nat.{◌*◌, ◌-◌, ◌<◌, ◌≤◌, ℕ}
 use mathlib.Core.Bool.{Bool, false, true, true≢false}
 use mathlib.Core.List.{List, map}
 use mathlib.Core.Logic.{◌↔◌}
-use mathlib.Core.Option.{Option, none, some}
+use Rattle.std.specs.Prelude.{None, Option, Some}
 use mathlib.Core.Path.{◌∙◌, ◌≡◌, ap, refl, sym}
 use native.Mathlib.Decide.{dec_lt}
 use native.Mathlib.Omega.{arith}
@@ -15,7 +16,8 @@ use Rattle.words.specs.Buffers.{written}
 use Rattle.words.specs.Words.{freely_reduce}
 use Rattle.words.proofs.Alphabet.{byte_laws, flip_byte_no_own_inverse}
 use Rattle.words.proofs.Buffers.{written-take}
-use Rattle.systems.specs.Moves.{Move, made_all, undone_all}
+use Rattle.systems.specs.Moves.{made_all, undone_all}
+use Rattle.systems.specs.declared.Move.{Move}
 use Rattle.systems.specs.Products.{Equivalent, FreelyReduced, Independent}
 use Rattle.systems.specs.Rank.{none_blank, rank}
 use Rattle.systems.specs.Reduced.{Reduced}
@@ -26,8 +28,6 @@ use Rattle.systems.proofs.Neither.{moves_again, moves-first, moves_fit, moves-ov
 use Rattle.systems.proofs.Runs.{backward, backward_way_within, equivalent, forward_way_within, forward-within, independence, reduced}
 use Rattle.records.specs.Answers.{on_fine, refusal_number}
 use Rattle.records.specs.Refusals.{must}
-use Rattle.records.specs.declared.answers.Checked.{Checked}
-use Rattle.records.specs.declared.answers.Checked.TheVariants.{Failed, Fine}
 use Rattle.records.specs.declared.answers.Verdict.{Verdict}
 use Rattle.records.specs.declared.answers.Verdict.TheVariants.{Done}
 use Rattle.records.proofs.Chains.{answered, fine_first, fine_next, must_fine}
@@ -39,22 +39,25 @@ use Rattle.moves.specs.Logs.{log_of, log_rules, move_size}
 use Rattle.moves.proofs.LogBack.{AllBetween, log_of-length, log_of-moves, log_of_passes, valid_between}
 use Rattle.replay.specs.Replay.{replay_rules, run_rules}
 use Rattle.replay.proofs.Accepting.{replay_accepts, run_accepts}
-use Rattle.runs.specs.Runs.{is_none, room_for, stopped}
+use Rattle.runs.specs.Runs.{room_for, stopped}
 use Rattle.reduction.specs.Meaning.{EnoughMoves, LogShort, ReduceMeans, Reduces, TestMeans}
 use Rattle.reduction.specs.Reduction.{log_after, reduce_answer, reduce_log, reduce_tests, reduce_words, reduction_of, run_tests, test_answer, tested_of, words_after}
 use Rattle.reduction.specs.declared.answers.Reduction.{Reduction}
 use Rattle.reduction.specs.declared.answers.Tested.{Tested}
 use Rattle.reduction.proofs.RoundTrip.{letters_made_all}
+use Rattle.records.specs.declared.refusals.Reason.TheVariants.{LogBufferShort}
+use Rattle.std.specs.Prelude.{Err, Ok}
+use Rattle.records.specs.Refusals.{Checked}
 
 -- neither rule applies exactly where the search for a move finds none
-none_yes : (o : Option Move) → is_none o ≡ true → o ≡ none
-none_yes none e = refl
-none_yes (some m) e = let z : ◌≡◌ {A = ℕ} 0 1 = cc in absurd (omega arith)
+none_yes : (o : Option Move) → is_none o ≡ true → o ≡ None
+none_yes None e = refl
+none_yes (Some m) e = let z : ◌≡◌ {A = ℕ} 0 1 = cc in absurd (omega arith)
 
-pub stopped_none : (S : List (List ℕ)) → stopped S ≡ true → next bytes S ≡ none
+pub stopped_none : (S : List (List ℕ)) → stopped S ≡ true → next bytes S ≡ None
 stopped_none S e = none_yes (next bytes S) e
 
-pub none-stopped : (S : List (List ℕ)) → next bytes S ≡ none → stopped S ≡ true
+pub none-stopped : (S : List (List ℕ)) → next bytes S ≡ None → stopped S ≡ true
 none-stopped S e = ap is_none e
 
 -- one word for each slot
@@ -63,9 +66,9 @@ unfolding freely_reduced_words
 words-length s = length-map (system_of s) (freely_reduce bytes) ∙ system-length s
 
 -- test: a call that is done has passed its tests
-tested_fine : (c : Checked) (S : List (List ℕ)) → (tested_of c S).verdict ≡ Done → c ≡ Fine
-tested_fine Fine S e = refl
-tested_fine (Failed f) S e = let z : ◌≡◌ {A = ℕ} 0 1 = cc in absurd (omega arith)
+tested_fine : (c : Checked) (S : List (List ℕ)) → (tested_of c S).verdict ≡ Done → c ≡ Ok tt
+tested_fine (Ok _) S e = refl
+tested_fine (Err f) S e = let z : ◌≡◌ {A = ℕ} 0 1 = cc in absurd (omega arith)
 
 -- "neither rule applies" exactly to the freely reduced words that are reduced
 pub tested_means : (s : List ℕ) → (stopped (freely_reduced_words s) ≡ true) ↔ Reduced bytes (freely_reduced_words s)
@@ -76,7 +79,7 @@ tested_means s =
 -- the answer of test, and so every answer equal to it, says yes exactly where the freely reduced words are reduced
 pub test_means : (s : List ℕ) (a : Tested) → a ≡ test_answer s → TestMeans s a
 test_means s a e done =
-    let passed : system_rules s ≡ Fine = tested_fine (system_rules s) (freely_reduced_words s) (rw e at done) in
+    let passed : system_rules s ≡ (Ok tt) = tested_fine (system_rules s) (freely_reduced_words s) (rw e at done) in
     let told : a.reduced ≡ stopped (freely_reduced_words s) = ap (λ (t : Tested). t.reduced) (e ∙ ap (λ (c : Checked). tested_of c (freely_reduced_words s)) passed) in
     (λ h. (tested_means s).0 (sym told ∙ h), λ r. told ∙ (tested_means s).1 r)
 
@@ -109,15 +112,15 @@ module _ (s : List ℕ) (n : ℕ) where
   moves_between : AllBetween (length (freely_reduced_words s)) (run_moves s n)
   moves_between = valid_between (freely_reduced_words s) (run_moves s n) (run_valid bytes byte_laws n (freely_reduced_words s) (loaded_freely_reduced s))
 
-  log_passes : log_rules (slots s) (log_of (run_moves s n)) ≡ Fine
+  log_passes : log_rules (slots s) (log_of (run_moves s n)) ≡ Ok tt
   log_passes = log_of_passes (slots s) (run_moves s n) (rw (words-length s) at moves_between)
 
   -- no word on the way is too long, forward or backward
-  forward-runs : run_rules false (freely_reduced_words s) (log_of (run_moves s n)) ≡ Fine
+  forward-runs : run_rules false (freely_reduced_words s) (log_of (run_moves s n)) ≡ Ok tt
   forward-runs = run_accepts false (freely_reduced_words s) (log_of (run_moves s n)) (rw (words-length s) log_passes)
       (λ d. rw (log_of-moves (run_moves s n)) (forward_way_within bytes byte_laws n (freely_reduced_words s) (loaded_freely_reduced s) 63 (reduced-short s) d))
 
-  backward-runs : run_rules true (run_words s n) (log_of (run_moves s n)) ≡ Fine
+  backward-runs : run_rules true (run_words s n) (log_of (run_moves s n)) ≡ Ok tt
   backward-runs = run_accepts true (run_words s n) (log_of (run_moves s n)) (rw left_length log_passes)
       (λ d. rw (log_of-moves (run_moves s n)) (backward_way_within bytes byte_laws n (freely_reduced_words s) (loaded_freely_reduced s) 63 (reduced-short s) (length (run_moves s n) - d)))
 
@@ -131,7 +134,7 @@ module _ (s : List ℕ) (n : ℕ) where
   left_equivalent = equivalent bytes byte_laws n (system_of s)
 
   -- where the run has come to its end, they are reduced, and the given words are independent exactly when no slot is blank
-  module _ (ended : next bytes (run_words s n) ≡ none) where
+  module _ (ended : next bytes (run_words s n) ≡ None) where
     pub left_reduced : Reduced bytes (run_words s n)
     unfolding freely_reduced_words
     left_reduced = reduced bytes byte_laws flip_byte_no_own_inverse n (system_of s) ended
@@ -141,7 +144,7 @@ module _ (s : List ℕ) (n : ℕ) where
     left_independent = independence bytes byte_laws flip_byte_no_own_inverse n (system_of s) ended
 
 -- a run over a system that passes its tests
-module _ (s : List ℕ) (n : ℕ) (system : system_rules s ≡ Fine) where
+module _ (s : List ℕ) (n : ℕ) (system : system_rules s ≡ Ok tt) where
   -- it leaves words of letters
   pub left_letters : LetterWords (run_words s n)
   left_letters = letters_made_all (freely_reduced_words s) (run_moves s n) (reduced_letters s system)
@@ -155,22 +158,22 @@ module _ (s : List ℕ) (n : ℕ) (system : system_rules s ≡ Fine) where
   left_words = ap (map (freely_reduce bytes)) left_back ∙ freely_reduced-same bytes byte_laws (run_words s n) (left_freely_reduced s n)
 
   -- and those bytes pass the tests of a system
-  pub left_passes : system_rules (bytes_of (run_words s n)) ≡ Fine
+  pub left_passes : system_rules (bytes_of (run_words s n)) ≡ Ok tt
   left_passes = system_passes (run_words s n) left_letters (left_short s n) (rw (left_length s n) (system-few s system))
 
   -- replay takes the log forward from the given system and backward from the system left
-  replay_forward : (room : ℕ) → slots s * 64 ≤ room → replay_rules s (log_of (run_moves s n)) false room ≡ Fine
+  replay_forward : (room : ℕ) → slots s * 64 ≤ room → replay_rules s (log_of (run_moves s n)) false room ≡ Ok tt
   replay_forward room h =
       replay_accepts s (log_of (run_moves s n)) false room system (log_passes s n) h (forward-runs s n)
 
-  replay_backward : (room : ℕ) → slots s * 64 ≤ room → replay_rules (bytes_of (run_words s n)) (log_of (run_moves s n)) true room ≡ Fine
+  replay_backward : (room : ℕ) → slots s * 64 ≤ room → replay_rules (bytes_of (run_words s n)) (log_of (run_moves s n)) true room ≡ Ok tt
   replay_backward room h =
       replay_accepts (bytes_of (run_words s n)) (log_of (run_moves s n)) true room left_passes (rw (left_slots s n) (log_passes s n))
       (rw (left_slots s n) h) (rw left_words (backward-runs s n))
 
   -- the bytes written of a run that has come to its end are what reduce must give
-  run-reduces : (v : Verdict) → next bytes (run_words s n) ≡ none
-      → Reduces s (bytes_of (run_words s n)) (log_of (run_moves s n)) (reduction_of Fine v (freely_reduced_words s) n)
+  run-reduces : (v : Verdict) → next bytes (run_words s n) ≡ None
+      → Reduces s (bytes_of (run_words s n)) (log_of (run_moves s n)) (reduction_of (Ok tt) v (freely_reduced_words s) n)
   run-reduces v ended =
       record {
         well_formed = left_passes;
@@ -190,7 +193,7 @@ module _ (s : List ℕ) (n : ℕ) (system : system_rules s ≡ Fine) where
       }
 
 -- a call that ran over the words of a system, as reduce and member do: what it logged
-logged_moves : (s log log' : List ℕ) (tests : Checked) → tests ≡ Fine → log' ≡ log_after tests (freely_reduced_words s) (room_for log) log
+logged_moves : (s log log' : List ℕ) (tests : Checked) → tests ≡ Ok tt → log' ≡ log_after tests (freely_reduced_words s) (room_for log) log
     → take (length (run_moves s (room_for log)) * move_size) log' ≡ log_of (run_moves s (room_for log))
 logged_moves s log log' tests passed logged =
     let new : log' ≡ written (log_of (run_moves s (room_for log))) log =
@@ -198,12 +201,12 @@ logged_moves s log log' tests passed logged =
     ap (take (length (run_moves s (room_for log)) * move_size)) new ∙ written-take (log_of (run_moves s (room_for log))) log _ (log_of-length (run_moves s (room_for log)))
 
 -- and where it passed its tests and 13
-module _ (s log : List ℕ) (tests : Checked) (passed : run_tests tests (freely_reduced_words s) (room_for log) ≡ Fine) where
-  pub ran_tests : tests ≡ Fine
+module _ (s log : List ℕ) (tests : Checked) (passed : run_tests tests (freely_reduced_words s) (room_for log) ≡ Ok tt) where
+  pub ran_tests : tests ≡ Ok tt
   ran_tests = fine_first tests _ passed
 
-  pub ran_ended : next bytes (run_words s (room_for log)) ≡ none
-  ran_ended = stopped_none (run_words s (room_for log)) (must_fine _ 13 0 (fine_next tests _ passed))
+  pub ran_ended : next bytes (run_words s (room_for log)) ≡ None
+  ran_ended = stopped_none (run_words s (room_for log)) (must_fine _ LogBufferShort 0 (fine_next tests _ passed))
 
   -- what it wrote
   pub ran_words : (words words' : List ℕ) → words' ≡ words_after tests (freely_reduced_words s) (room_for log) words
@@ -214,18 +217,18 @@ module _ (s log : List ℕ) (tests : Checked) (passed : run_tests tests (freely_
       ap (take (slots s * 64)) new ∙ written-take (bytes_of (run_words s (room_for log))) words (slots s * 64) (left_bytes s (room_for log))
 
   -- is what reduce must give, whatever the verdict
-  pub ran_reduces : system_rules s ≡ Fine → (v : Verdict) (a : Reduction) (words words' log' : List ℕ)
+  pub ran_reduces : system_rules s ≡ Ok tt → (v : Verdict) (a : Reduction) (words words' log' : List ℕ)
       → a ≡ reduction_of (run_tests tests (freely_reduced_words s) (room_for log)) v (freely_reduced_words s) (room_for log)
       → words' ≡ words_after tests (freely_reduced_words s) (room_for log) words → log' ≡ log_after tests (freely_reduced_words s) (room_for log) log
       → Reduces s (take (slots s * 64) words') (take (a.moves * move_size) log') a
   ran_reduces system v a words words' log' answered wrote logged =
-      let told : a ≡ reduction_of Fine v (freely_reduced_words s) (room_for log) =
+      let told : a ≡ reduction_of (Ok tt) v (freely_reduced_words s) (room_for log) =
       answered ∙ ap (λ (c : Checked). reduction_of c v (freely_reduced_words s) (room_for log)) passed in
       rw (told, ran_words words words' wrote, logged_moves s log log' tests ran_tests logged) (run-reduces s (room_for log) system v ran_ended)
 
 -- it passes where its tests do and the moves have room
-pub enough_passes : (s log : List ℕ) (tests : Checked) (enough : ℕ) → tests ≡ Fine → EnoughMoves s enough → enough * move_size ≤ length log
-    → run_tests tests (freely_reduced_words s) (room_for log) ≡ Fine
+pub enough_passes : (s log : List ℕ) (tests : Checked) (enough : ℕ) → tests ≡ Ok tt → EnoughMoves s enough → enough * move_size ≤ length log
+    → run_tests tests (freely_reduced_words s) (room_for log) ≡ Ok tt
 enough_passes s log tests enough fine ended room =
     let few : enough ≤ room_for log = omega arith in
     let stop : stopped (run_words s (room_for log)) ≡ true =
@@ -234,12 +237,12 @@ enough_passes s log tests enough fine ended room =
 
 -- a verdict on a run, or 13 where it did not come to its end
 verdict_stopped : (b : Bool) (v : Verdict) (S : List (List ℕ)) (n : ℕ) → refusal_number v ≡ 0
-    → (refusal_number (reduction_of (must b 13 0) v S n).verdict ≡ 13) ↔ (b ≡ false)
+    → (refusal_number (reduction_of (must b LogBufferShort 0) v S n).verdict ≡ 13) ↔ (b ≡ false)
 verdict_stopped true v S n unrefused = (λ e. absurd (omega (arith, e, unrefused)), λ e. absurd (true≢false e))
 verdict_stopped false v S n unrefused = (λ e. refl, λ e. refl)
 
 -- a call that passed its tests gets 13 exactly where the moves are more than the log has room for, and the log holds the first of them
-module _ (s log : List ℕ) (tests : Checked) (passed : tests ≡ Fine) (enough : ℕ) (ended : EnoughMoves s enough) where
+module _ (s log : List ℕ) (tests : Checked) (passed : tests ≡ Ok tt) (enough : ℕ) (ended : EnoughMoves s enough) where
   stopped_fit : (stopped (run_words s (room_for log)) ≡ false) ↔ (room_for log < length (run_moves s enough))
   stopped_fit = go (stopped (run_words s (room_for log))) refl
     where
@@ -261,7 +264,7 @@ module _ (s log : List ℕ) (tests : Checked) (passed : tests ≡ Fine) (enough 
       → a ≡ reduction_of (run_tests tests (freely_reduced_words s) (room_for log)) v (freely_reduced_words s) (room_for log)
       → log' ≡ log_after tests (freely_reduced_words s) (room_for log) log → LogShort (run_moves s enough) log log' a
   short_means v unrefused a log' answered logged =
-      let told : a ≡ reduction_of (must (stopped (run_words s (room_for log))) 13 0) v (freely_reduced_words s) (room_for log) =
+      let told : a ≡ reduction_of (must (stopped (run_words s (room_for log))) LogBufferShort 0) v (freely_reduced_words s) (room_for log) =
       answered ∙ ap (λ (c : Checked). reduction_of (run_tests c (freely_reduced_words s) (room_for log)) v (freely_reduced_words s) (room_for log)) passed in
       let stops = verdict_stopped (stopped (run_words s (room_for log))) v (freely_reduced_words s) (room_for log) unrefused in
       let over : refusal_number a.verdict ≡ 13 → room_for log < length (run_moves s enough) =
@@ -277,9 +280,9 @@ module _ (s log : List ℕ) (tests : Checked) (passed : tests ≡ Fine) (enough 
       }
 
 -- reduce: a call that is done has passed its tests
-reduction_fine : (c : Checked) (S : List (List ℕ)) (n : ℕ) → (reduction_of c Done S n).verdict ≡ Done → c ≡ Fine
-reduction_fine Fine S n e = refl
-reduction_fine (Failed f) S n e = let z : ◌≡◌ {A = ℕ} 0 1 = cc in absurd (omega arith)
+reduction_fine : (c : Checked) (S : List (List ℕ)) (n : ℕ) → (reduction_of c Done S n).verdict ≡ Done → c ≡ Ok tt
+reduction_fine (Ok _) S n e = refl
+reduction_fine (Err f) S n e = let z : ◌≡◌ {A = ℕ} 0 1 = cc in absurd (omega arith)
 
 -- the answer of reduce and what it wrote into the two buffers mean what is demanded of them
 pub reduce_means : (s words log : List ℕ) (a : Reduction) (words' log' : List ℕ) → a ≡ reduce_answer s words log

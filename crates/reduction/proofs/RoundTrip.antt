@@ -3,7 +3,10 @@ use Prim.Native.Nat.{ℕ}
 use mathlib.Core.List.{List, [], ◌∷◌}
 use Rattle.words.specs.Alphabet.{bytes}
 use Rattle.words.specs.Words.{inverse}
-use Rattle.systems.specs.Moves.{Form, Move, formed, form₁, form₂, form₃, form₄, made, made_all, moved_word}
+use Rattle.systems.specs.Moves.{formed, made, made_all, moved_word}
+use Rattle.systems.specs.declared.Form.{Form}
+use Rattle.systems.specs.declared.Move.{Move}
+use Rattle.systems.specs.declared.Form.TheVariants.{After, Before, InverseAfter, InverseBefore}
 use Rattle.systems.specs.Products.{word}
 use Rattle.systems.proofs.Undoing.{set_holds}
 use Rattle.records.proofs.RoundTrip.{AllLetters, letters_append, letters_inverse, letters_reduce}
@@ -11,10 +14,10 @@ use Rattle.slots.proofs.RoundTrip.{LetterWords}
 
 -- moves of words of letters
 letters_formed : (form : Form) (wi wk : List ℕ) → AllLetters wi → AllLetters wk → AllLetters (formed bytes form wi wk)
-letters_formed form₁ wi wk a b = letters_append wi wk a b
-letters_formed form₂ wi wk a b = letters_append (inverse bytes wi) wk (letters_inverse wi a) b
-letters_formed form₃ wi wk a b = letters_append wk wi b a
-letters_formed form₄ wi wk a b = letters_append wk (inverse bytes wi) b (letters_inverse wi a)
+letters_formed Before wi wk a b = letters_append wi wk a b
+letters_formed InverseBefore wi wk a b = letters_append (inverse bytes wi) wk (letters_inverse wi a) b
+letters_formed After wi wk a b = letters_append wk wi b a
+letters_formed InverseAfter wi wk a b = letters_append wk (inverse bytes wi) b (letters_inverse wi a)
 
 pub letters_made : (S : List (List ℕ)) (m : Move) → LetterWords S → LetterWords (made bytes S m)
 letters_made S m a = set_holds (λ k w. AllLetters w) S m.changed (moved_word bytes S m) [] a

@@ -1,8 +1,8 @@
 -- What the answers of reduce and test mean, over the lent buffers alone: the second demand of docs/REQUIREMENTS.md.
 use Rattle.std.specs.Prelude.{ℕ, ◌*◌, ◌≤◌, ◌<◌, ◌≡◌, ◌↔◌, true, false, List, length, take}
-use Rattle.std.proofs.Math.Option.{none}
+use Rattle.std.specs.Prelude.{None}
 use Rattle.words.specs.Alphabet.{bytes}
-use Rattle.systems.specs.Moves.{Move}
+use Rattle.systems.specs.declared.Move.{Move}
 use Rattle.systems.specs.Products.{FreelyReduced, Equivalent, Independent}
 use Rattle.systems.specs.Reduced.{Reduced}
 use Rattle.systems.specs.Rules.{next, moves_within, run_within}
@@ -10,22 +10,22 @@ use Rattle.systems.specs.Rank.{none_blank, rank}
 use Rattle.slots.specs.Systems.{slots, system_of, freely_reduced_words}
 use Rattle.slots.specs.Refusals.{system_rules}
 use Rattle.records.specs.Answers.{refusal_number}
-use Rattle.records.specs.declared.answers.Checked.TheVariants.{Fine}
 use Rattle.records.specs.declared.answers.Verdict.TheVariants.{Done}
 use Rattle.moves.specs.Logs.{log_of, move_size, moves_in}
 use Rattle.replay.specs.Replay.{replay_rules, replayed}
 use Rattle.runs.specs.Runs.{room_for}
 use Rattle.reduction.specs.declared.answers.Reduction.{Reduction}
 use Rattle.reduction.specs.declared.answers.Tested.{Tested}
+use Rattle.std.specs.Prelude.{Ok}
 
 -- neither rule applies after so many moves on the freely reduced words of a system
 abbrev pub EnoughMoves : List ℕ → ℕ → Type 0
-EnoughMoves given n = next bytes (run_within bytes n (freely_reduced_words given)) ≡ none
+EnoughMoves given n = next bytes (run_within bytes n (freely_reduced_words given)) ≡ None
 
 -- reduce: the given system, the reduced system W and the log L that were written, and the answer
 pub record Reduces (given W L : List ℕ) (answer : Reduction) : Type 0 where
   -- W is a system again, which every call takes
-  pub well_formed : system_rules W ≡ Fine
+  pub well_formed : system_rules W ≡ Ok tt
   -- "The result is a reduced system in Nielsen's sense (1921)", of freely reduced words
   pub freely_reduced : FreelyReduced bytes (system_of W)
   pub reduced : Reduced bytes (system_of W)
@@ -43,10 +43,10 @@ pub record Reduces (given W L : List ℕ) (answer : Reduction) : Type 0 where
   -- "exactly when no slot, given blank or not, is blank at the end"
   pub none_blank : answer.independent ≡ none_blank (system_of W)
   -- "Following the log forward from the given words gives the reduced ones": replay takes both and gives them
-  pub forward : (room : ℕ) → slots given * 64 ≤ room → replay_rules given L false room ≡ Fine
+  pub forward : (room : ℕ) → slots given * 64 ≤ room → replay_rules given L false room ≡ Ok tt
   pub forward_gives : replayed false (freely_reduced_words given) (moves_in L) ≡ system_of W
   -- "and following it backward from those gives the given words, freely reduced"
-  pub backward : (room : ℕ) → slots given * 64 ≤ room → replay_rules W L true room ≡ Fine
+  pub backward : (room : ℕ) → slots given * 64 ≤ room → replay_rules W L true room ≡ Ok tt
   pub backward_gives : replayed true (freely_reduced_words W) (moves_in L) ≡ freely_reduced_words given
 
 -- refusal 13, where no earlier one applies, of all the moves that the rules make, the log that was lent and what it holds afterwards
@@ -61,9 +61,9 @@ pub record LogShort (moves : List Move) (log log' : List ℕ) (answer : Reductio
 -- the log
 pub record ReduceMeans (given words log : List ℕ) (answer : Reduction) (words' log' : List ℕ) : Type 0 where
   pub finite : (enough : ℕ) × EnoughMoves given enough
-  pub done : system_rules given ≡ Fine → slots given * 64 ≤ length words
+  pub done : system_rules given ≡ Ok tt → slots given * 64 ≤ length words
       → (enough : ℕ) → EnoughMoves given enough → enough * move_size ≤ length log → answer.verdict ≡ Done
-  pub log_short : system_rules given ≡ Fine → slots given * 64 ≤ length words
+  pub log_short : system_rules given ≡ Ok tt → slots given * 64 ≤ length words
       → (enough : ℕ) → EnoughMoves given enough → LogShort (moves_within bytes enough (freely_reduced_words given)) log log' answer
   pub reduces : answer.verdict ≡ Done → Reduces given (take (slots given * 64) words') (take (answer.moves * move_size) log') answer
 

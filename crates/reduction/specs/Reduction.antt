@@ -5,8 +5,6 @@ use Rattle.words.specs.Buffers.{written}
 use Rattle.systems.specs.Rank.{none_blank, rank}
 use Rattle.systems.specs.Rules.{moves_within, run_within}
 use Rattle.records.specs.Answers.{on_fine}
-use Rattle.records.specs.declared.answers.Checked.{Checked}
-use Rattle.records.specs.declared.answers.Checked.TheVariants.{Failed, Fine}
 use Rattle.records.specs.declared.answers.Verdict.{Verdict}
 use Rattle.records.specs.declared.answers.Verdict.TheVariants.{Done, Refused}
 use Rattle.records.specs.Refusals.{◌and_then◌, must}
@@ -17,29 +15,32 @@ use Rattle.runs.specs.Runs.{room_for, stopped}
 use Rattle.reduction.specs.declared.answers.Reduction.{Reduction}
 use Rattle.reduction.specs.declared.answers.Tested.{Tested}
 use Rattle.reduction.specs.declared.reduce.Summary.{Summary}
+use Rattle.records.specs.declared.refusals.Reason.TheVariants.{LogBufferShort}
+use Rattle.std.specs.Prelude.{Err, Ok}
+use Rattle.records.specs.Refusals.{Checked}
 
 -- "Under a refusal all other numbers are 0 and every yes-or-no is no." Only a failed check comes here.
 abbrev pub refused_reduction : Checked → Reduction
-refused_reduction Fine = record { verdict = Done; moves = 0; rank = 0; independent = false }
-refused_reduction (Failed f) = record { verdict = Refused f; moves = 0; rank = 0; independent = false }
+refused_reduction (Ok _) = record { verdict = Done; moves = 0; rank = 0; independent = false }
+refused_reduction (Err f) = record { verdict = Refused f; moves = 0; rank = 0; independent = false }
 
 -- the answer of reduce and of member: a refusal, or a verdict with the numbers of a run of at most so many moves. "The verdict is
 -- 'independent' exactly when no slot, given blank or not, is blank at the end."
 abbrev pub reduction_of : Checked → Verdict → List (List ℕ) → ℕ → Reduction
-reduction_of Fine verdict S most =
+reduction_of (Ok _) verdict S most =
     record {
       verdict = verdict;
       moves = length (moves_within bytes most S);
       rank = rank (run_within bytes most S);
       independent = none_blank (run_within bytes most S);
     }
-reduction_of (Failed f) verdict S most = refused_reduction (Failed f)
+reduction_of (Err f) verdict S most = refused_reduction (Err f)
 
 -- reduce and member alike: the freely reduced words S are run over where no test before the run fails, with room for so many moves
 module _ (tests : Checked) (S : List (List ℕ)) (most : ℕ) where
   -- those tests, and then 13. "The moves number more than a quarter of the log buffer's length, rounded down."
   abbrev pub run_tests : Checked
-  run_tests = tests and_then must (stopped (run_within bytes most S)) 13 0
+  run_tests = tests and_then must (stopped (run_within bytes most S)) LogBufferShort 0
 
   -- the words that the run leaves, in the buffer for words
   abbrev pub words_after : List ℕ → List ℕ
@@ -69,13 +70,13 @@ summed z v = record { verdict = v; moves = z.moves; rank = z.rank; independent =
 
 -- under a refusal test says no. Only a failed check comes here.
 abbrev pub refused_test : Checked → Tested
-refused_test Fine = record { verdict = Done; reduced = false }
-refused_test (Failed f) = record { verdict = Refused f; reduced = false }
+refused_test (Ok _) = record { verdict = Done; reduced = false }
+refused_test (Err f) = record { verdict = Refused f; reduced = false }
 
 -- Test: "is a system, after free reduction of its words, reduced?"
 abbrev pub tested_of : Checked → List (List ℕ) → Tested
-tested_of Fine S = record { verdict = Done; reduced = stopped S }
-tested_of (Failed f) S = refused_test (Failed f)
+tested_of (Ok _) S = record { verdict = Done; reduced = stopped S }
+tested_of (Err f) S = refused_test (Err f)
 
 abbrev pub test_answer : List ℕ → Tested
 test_answer s = tested_of (system_rules s) (freely_reduced_words s)

@@ -13,9 +13,9 @@ ghost use Rattle.reduction.specs.Meaning.{ReduceMeans};
 ghost use Rattle.reduction.specs.Reduction.{reduce_answer, reduce_log, reduce_words, refused_reduction, summed};
 
 use crate::answers::Reduction;
-use records::answers::{Checked, Verdict, check_that};
+use records::answers::{Refusal, Verdict, check_that};
 use records::record::RECORD;
-use records::refusals::LOG_BUFFER_SHORT;
+use records::refusals::Reason;
 use runs::run;
 use slots::checks::check_system_room;
 use slots::held::{load, store};
@@ -27,7 +27,7 @@ pub struct Summary {
     pub moves: usize,
     pub rank: usize,
     pub independent: bool,
-    pub ended: Checked,
+    pub ended: Result<(), Refusal>,
 }
 
 // Reduces a system: the reduced words go into one lent buffer and the log of the moves into another.
@@ -47,14 +47,14 @@ fn reduce_records(system: &[u8], words: &mut [u8], log: &mut [u8]) -> Reduction
     ensures log { log.new ≡ reduce_log system.now words.old log.old }
 {
     let checked = check_system_room(system, words.len());
-    let Checked::Fine = checked else {
+    let Ok(()) = checked else {
         return refused(checked);
     };
     let mut letters = [0u8; 1024];
     let mut lengths = [0usize; 16];
     let summary = reduce_held(system, &mut letters, &mut lengths, log);
     let ended = summary.ended;
-    let Checked::Fine = ended else {
+    let Ok(()) = ended else {
         return refused(ended);
     };
     store(&letters, &lengths, system.len() / RECORD, words);
@@ -74,17 +74,17 @@ pub fn answer_with(summary: Summary, verdict: Verdict) -> Reduction
 }
 
 // The answer of reduce and of member where a test failed.
-pub fn refused(checked: Checked) -> Reduction
+pub fn refused(checked: Result<(), Refusal>) -> Reduction
     ensures { result ≡ refused_reduction checked }
 {
     match checked {
-        Checked::Fine => Reduction {
+        Ok(()) => Reduction {
             verdict: Verdict::Done,
             moves: 0,
             rank: 0,
             independent: false,
         },
-        Checked::Failed(refusal) => Reduction {
+        Err(refusal) => Reduction {
             verdict: Verdict::Refused(refusal),
             moves: 0,
             rank: 0,
@@ -105,7 +105,7 @@ pub fn reduce_held(
     ensures moves { result.moves ≡ length (moves_within bytes (room_for log.old) (freely_reduced_words system.now)) }
     ensures rank { result.rank ≡ rank (run_within bytes (room_for log.old) (freely_reduced_words system.now)) }
     ensures independent { result.independent ≡ none_blank (run_within bytes (room_for log.old) (freely_reduced_words system.now)) }
-    ensures ended { result.ended ≡ must (stopped (run_within bytes (room_for log.old) (freely_reduced_words system.now))) 13 0 }
+    ensures ended { result.ended ≡ must (stopped (run_within bytes (room_for log.old) (freely_reduced_words system.now))) Reason.LogBufferShort 0 }
     ensures words { held (slots system.now) letters.new lengths.new ≡ run_within bytes (room_for log.old) (freely_reduced_words system.now) }
     ensures log { log.new ≡ written (log_of (moves_within bytes (room_for log.old) (freely_reduced_words system.now))) log.old }
     ensures held { Held (slots system.now) letters.new lengths.new }
@@ -118,7 +118,7 @@ pub fn reduce_held(
         moves: ran.moves,
         rank,
         independent: rank == n,
-        ended: check_that(ran.ended, LOG_BUFFER_SHORT, 0),
+        ended: check_that(ran.ended, Reason::LogBufferShort, 0),
     }
 }
 

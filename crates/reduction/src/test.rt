@@ -7,9 +7,9 @@ ghost use Rattle.reduction.specs.Reduction.{refused_test, test_answer};
 
 use crate::answers::Tested;
 use inverses::invert_words;
-use records::answers::{Checked, Verdict};
+use records::answers::{Refusal, Verdict};
 use records::record::RECORD;
-use runs::{find_move, is_nothing};
+use runs::find_move;
 use slots::checks::check_system;
 use slots::held::load;
 
@@ -26,7 +26,7 @@ fn test_records(system: &[u8]) -> Tested
     ensures { result ≡ test_answer system.now }
 {
     let checked = check_system(system);
-    let Checked::Fine = checked else {
+    let Ok(()) = checked else {
         return untested(checked);
     };
     let n = system.len() / RECORD;
@@ -48,19 +48,19 @@ pub fn is_reduced(letters: &[u8], lengths: &[usize], n: usize) -> bool
     invert_words(letters, lengths, n, &mut inverses);
     let mut marks = [0u8; 256];
     let found = find_move(letters, &inverses, lengths, n, 0, &mut marks);
-    is_nothing(found)
+    found.is_none()
 }
 
 // The answer of a test that was refused.
-fn untested(checked: Checked) -> Tested
+fn untested(checked: Result<(), Refusal>) -> Tested
     ensures { result ≡ refused_test checked }
 {
     match checked {
-        Checked::Fine => Tested {
+        Ok(()) => Tested {
             verdict: Verdict::Done,
             reduced: false,
         },
-        Checked::Failed(refusal) => Tested {
+        Err(refusal) => Tested {
             verdict: Verdict::Refused(refusal),
             reduced: false,
         },

@@ -1,6 +1,6 @@
 -- The moves of a log, made from the first to the last or undone from the last to the first: one turn after the other.
-use Prim.Native.Nat.{◌%◌, ◌+◌, ◌-◌, ◌/◌, ◌<◌, ◌≤◌, suc, zero, ℕ}
-use mathlib.Core.Bool.{Bool, false, not, true}
+use Prim.Native.Nat.{◌+◌, ◌-◌, ◌/◌, ◌<◌, ◌≤◌, ℕ}
+use mathlib.Core.Bool.{Bool, false, true}
 use mathlib.Core.List.{List, [], ◌++◌, ◌∷◌}
 use mathlib.Core.Path.{◌∙◌, ◌≡◌, ap, ap₂, refl, sym}
 use native.Mathlib.Nat.{le_antisymm}
@@ -9,49 +9,19 @@ use native.Mathlib.Omega.{arith}
 use lib.Dec.{leb}
 use lib.ListN.{drop, drop_of_length-le, length, take}
 use lib.Seq.{take_all, take-suc}
-use borrow.Author.Tests.{not-false, not-true}
 use Rattle.words.specs.Alphabet.{bytes}
 use Rattle.words.proofs.Below.{below_at, below-drop, below_length}
-use Rattle.systems.specs.Moves.{Move, made, made_all, moved_word, undoing, undone_all}
-use Rattle.systems.specs.Rules.{form_at}
+use Rattle.systems.specs.Moves.{made, made_all, moved_word, undone_all}
+use Rattle.systems.specs.declared.Move.{Move}
 use Rattle.systems.proofs.Undoing.{made_all-length, made_all-snoc, undone_all-length}
 use Rattle.records.specs.Refusals.{each_below, must}
-use Rattle.records.specs.declared.answers.Checked.{Checked}
-use Rattle.records.specs.declared.answers.Checked.TheVariants.{Failed, Fine}
 use Rattle.records.specs.declared.answers.Refusal.{Refusal}
 use Rattle.records.proofs.Chains.{each_fail, each_pass, must_passed}
 use Rattle.moves.specs.Logs.{move_at, move_size, moves_in}
 use Rattle.replay.specs.Replay.{directed, place_at, ran_before, replayed, run_rules, turn_rule}
-
--- the form that undoes a form, both counted from 0
-form_even : (f : ℕ) → f < 4 → f % 2 ≡ 0 → form_at (f + 1) ≡ undoing (form_at f)
-form_even zero h e = refl
-form_even (suc zero) h e = absurd (omega arith)
-form_even (suc (suc zero)) h e = refl
-form_even (suc (suc (suc zero))) h e = absurd (omega arith)
-form_even (suc (suc (suc (suc f)))) h e = absurd (omega arith)
-
-form_odd : (f : ℕ) → f < 4 → (f % 2 ≡ 0 → ⊥) → form_at (f - 1) ≡ undoing (form_at f)
-form_odd zero h n = absurd (n refl)
-form_odd (suc zero) h n = refl
-form_odd (suc (suc zero)) h n = absurd (n refl)
-form_odd (suc (suc (suc zero))) h n = refl
-form_odd (suc (suc (suc (suc f)))) h n = absurd (omega arith)
-
--- a move whose form is the undoing one takes its move back
-module _ (backward : Bool) (k f i : ℕ) where
-  pub directed-forward : not backward ≡ true
-      → ◌≡◌ {A = Move} (record { changed = k; form = form_at f; other = i }) (directed backward (record { changed = k; form = form_at f; other = i }))
-  directed-forward way = rw (not-true backward way)
-
-  module _ (way : not backward ≡ false) (known : f < 4) where
-    pub directed_even : f % 2 ≡ 0
-        → ◌≡◌ {A = Move} (record { changed = k; form = form_at (f + 1); other = i }) (directed backward (record { changed = k; form = form_at f; other = i }))
-    directed_even e = rw (not-false backward way, form_even f known e)
-
-    pub directed_odd : (f % 2 ≡ 0 → ⊥)
-        → ◌≡◌ {A = Move} (record { changed = k; form = form_at (f - 1); other = i }) (directed backward (record { changed = k; form = form_at f; other = i }))
-    directed_odd n = rw (not-false backward way, form_odd f known n)
+use Rattle.records.specs.declared.refusals.Reason.TheVariants.{WordTooLong}
+use Rattle.std.specs.Prelude.{Err, Ok}
+use Rattle.records.specs.Refusals.{Checked}
 
 -- where the move of a turn stands
 module _ {backward : Bool} (count d : ℕ) where
@@ -107,24 +77,24 @@ module _ (log : List ℕ) (S : List (List ℕ)) where
       same_move : u ≡ directed backward (move_at log (place_at backward (length log / move_size) d))
       same_move = turned ∙ ap (directed backward) (read ∙ ap (move_at log) place)
 
-      turn_told : must t 12 (at + 1) ≡ turn_rule backward S log d
+      turn_told : must t WordTooLong (at + 1) ≡ turn_rule backward S log d
       unfolding turn_rule
       turn_told =
-          ap₂ (λ (b : Bool) (i : ℕ). must b 12 (i + 1))
+          ap₂ (λ (b : Bool) (i : ℕ). must b WordTooLong (i + 1))
           (tried ∙ ap₂ (λ (U : List (List ℕ)) (v : Move). leb (length (moved_word bytes U v)) 63) here same_move) place
 
-      module _ {x : Checked} (e : x ≡ must t 12 (at + 1)) where
-        module _ (passed : each_below (turn_rule backward S log) d ≡ Fine) where
-          pub turn_fails : {f : Refusal} → x ≡ Failed f → x ≡ run_rules backward S log
+      module _ {x : Checked} (e : x ≡ must t WordTooLong (at + 1)) where
+        module _ (passed : each_below (turn_rule backward S log) d ≡ Ok tt) where
+          pub turn_fails : {f : Refusal} → x ≡ Err f → x ≡ run_rules backward S log
           turn_fails long = each_fail (turn_rule backward S log) d passed (length log / move_size) inside (e ∙ turn_told) long
 
-          pub turn_passes : x ≡ Fine → each_below (turn_rule backward S log) (d + 1) ≡ Fine
+          pub turn_passes : x ≡ Ok tt → each_below (turn_rule backward S log) (d + 1) ≡ Ok tt
           turn_passes short = each_pass (turn_rule backward S log) d passed (e ∙ turn_told) short
 
-        pub turn_makes : (T' : List (List ℕ)) → (t ≡ true → T' ≡ made bytes T u) → x ≡ Fine
+        pub turn_makes : (T' : List (List ℕ)) → (t ≡ true → T' ≡ made bytes T u) → x ≡ Ok tt
             → T' ≡ replayed backward S (ran_before backward (moves_in log) (d + 1))
         turn_makes T' done short =
-            done (must_passed t 12 (at + 1) e short) ∙ ap₂ (made bytes) here same_move ∙ sym (turn_next backward d inside)
+            done (must_passed t WordTooLong (at + 1) e short) ∙ ap₂ (made bytes) here same_move ∙ sym (turn_next backward d inside)
 
     -- no move is left
     pub turn_end : length log / move_size ≤ d → d ≤ length log / move_size → T ≡ replayed backward S (moves_in log)

@@ -2,15 +2,17 @@
 -- counts as the empty word. Backward undoes the last move first."
 use Rattle.std.specs.Prelude.{ℕ, ◌+◌, ◌-◌, ◌*◌, ◌/◌, Bool, cond, List, length, take, drop, leb}
 use Rattle.words.specs.Alphabet.{bytes}
-use Rattle.systems.specs.Moves.{Move, undo, moved_word, made_all, undone_all}
+use Rattle.systems.specs.Moves.{undo, moved_word, made_all, undone_all}
+use Rattle.systems.specs.declared.Move.{Move}
 use Rattle.slots.specs.Systems.{slots, bytes_of, freely_reduced_words}
 use Rattle.words.specs.Buffers.{written}
 use Rattle.records.specs.Answers.{answer_of, on_fine}
 use Rattle.records.specs.declared.answers.Answer.{Answer}
-use Rattle.records.specs.declared.answers.Checked.{Checked}
 use Rattle.records.specs.Refusals.{must, ◌and_then◌, each_below}
 use Rattle.slots.specs.Refusals.{system_rules, word_room}
 use Rattle.moves.specs.Logs.{move_size, move_at, moves_in, log_rules}
+use Rattle.records.specs.declared.refusals.Reason.TheVariants.{WordTooLong}
+use Rattle.records.specs.Refusals.{Checked}
 
 -- the moves run one way or the other: the system after them
 abbrev pub replayed : Bool → List (List ℕ) → List Move → List (List ℕ)
@@ -37,7 +39,7 @@ fits S m = leb (length (moved_word bytes S m)) 63
 unfoldable pub turn_rule : Bool → List (List ℕ) → List ℕ → ℕ → Checked
 turn_rule backward S log d =
     let place : ℕ = place_at backward (length log / move_size) d in
-    must (fits (replayed backward S (ran_before backward (moves_in log) d)) (directed backward (move_at log place))) 12 (place + 1)
+    must (fits (replayed backward S (ran_before backward (moves_in log) d)) (directed backward (move_at log place))) WordTooLong (place + 1)
 
 -- on all turns
 abbrev pub run_rules : Bool → List (List ℕ) → List ℕ → Checked

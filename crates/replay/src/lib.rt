@@ -2,20 +2,18 @@
 #![tactic(auto)]
 
 ghost use Rattle.std.specs.Prelude.{◌<◌, ◌≡◌};
-ghost use Rattle.records.specs.declared.answers.Checked.TheVariants.{Fine};
 ghost use Rattle.slots.specs.Held.{Held, held};
-ghost use Rattle.moves.specs.Found.{move_of};
 ghost use Rattle.moves.specs.Logs.{log_rules, moves_in};
 ghost use Rattle.replay.specs.Replay.{place_at, replay_answer, replay_buffer, replay_tests, replayed, run_rules, directed as directed_move};
 
-use moves::found::Move;
 use moves::log::{MOVE, check_log, read_move};
 use moves::make::make_move;
-use records::answers::{Answer, Checked, answer_of, check_that};
+use records::answers::{Answer, Refusal, answer_of, check_that};
 use records::record::RECORD;
-use records::refusals::WORD_TOO_LONG;
+use records::refusals::Reason;
 use slots::checks::{check_room, check_system};
 use slots::held::{load, store};
+use systems::Move;
 
 // Runs a log over a system and writes the words after it into the lent buffer.
 pub fn replay(system: &[u8], log: &[u8], backward: bool, words: &mut [u8]) -> Answer
@@ -23,7 +21,7 @@ pub fn replay(system: &[u8], log: &[u8], backward: bool, words: &mut [u8]) -> An
     ensures words { words.new ≡ replay_buffer system.now log.now backward words.old }
 {
     let checked = check_replay(system, log, words.len());
-    let Checked::Fine = checked else {
+    let Ok(()) = checked else {
         return answer_of(checked);
     };
     let n = system.len() / RECORD;
@@ -31,7 +29,7 @@ pub fn replay(system: &[u8], log: &[u8], backward: bool, words: &mut [u8]) -> An
     let mut lengths = [0usize; 16];
     load(system, &mut letters, &mut lengths);
     let ran = run(log, backward, n, &mut letters, &mut lengths);
-    let Checked::Fine = ran else {
+    let Ok(()) = ran else {
         return answer_of(ran);
     };
     store(&letters, &lengths, n, words);
@@ -39,31 +37,37 @@ pub fn replay(system: &[u8], log: &[u8], backward: bool, words: &mut [u8]) -> An
 }
 
 // Refusals 1 to 5, 7, 8 and 10.
-fn check_replay(system: &[u8], log: &[u8], room: usize) -> Checked
+fn check_replay(system: &[u8], log: &[u8], room: usize) -> Result<(), Refusal>
     ensures { result ≡ replay_tests system.now log.now room }
 {
     let checked = check_system(system);
-    let Checked::Fine = checked else {
+    let Ok(()) = checked else {
         return checked;
     };
     let n = system.len() / RECORD;
     let logged = check_log(n, log);
-    let Checked::Fine = logged else {
+    let Ok(()) = logged else {
         return logged;
     };
     let roomy = check_room(n * RECORD, room);
-    let Checked::Fine = roomy else {
+    let Ok(()) = roomy else {
         return roomy;
     };
-    Checked::Fine
+    Ok(())
 }
 
 // Runs the moves of a log, the first one first, or undoes them, the last one first, with refusal 12.
-fn run(log: &[u8], backward: bool, n: usize, letters: &mut [u8], lengths: &mut [usize]) -> Checked
-    requires valid { log_rules n log.now ≡ Fine }
+fn run(
+    log: &[u8],
+    backward: bool,
+    n: usize,
+    letters: &mut [u8],
+    lengths: &mut [usize],
+) -> Result<(), Refusal>
+    requires valid { log_rules n log.now ≡ Ok tt }
     requires held { Held n letters.old lengths.old }
     ensures rules { result ≡ run_rules backward (held n letters.old lengths.old) log.now }
-    ensures words { result ≡ Fine → held n letters.new lengths.new ≡ replayed backward (held n letters.old lengths.old) (moves_in log.now) }
+    ensures words { result ≡ Ok tt → held n letters.new lengths.new ≡ replayed backward (held n letters.old lengths.old) (moves_in log.now) }
     ensures held { Held n letters.new lengths.new }
 {
     let count = log.len() / MOVE;
@@ -71,13 +75,17 @@ fn run(log: &[u8], backward: bool, n: usize, letters: &mut [u8], lengths: &mut [
     while done < count {
         let at = place_at(backward, count, done);
         let m = directed(backward, read_move(n, log, at));
-        let fitted = check_that(make_move(letters, lengths, n, m), WORD_TOO_LONG, at + 1);
-        let Checked::Fine = fitted else {
+        let fitted = check_that(
+            make_move(letters, lengths, n, m),
+            Reason::WordTooLong,
+            at + 1,
+        );
+        let Ok(()) = fitted else {
             return fitted;
         };
         done += 1;
     }
-    Checked::Fine
+    Ok(())
 }
 
 // Where the next move stands in the log when some of them are done.
@@ -89,20 +97,10 @@ fn place_at(backward: bool, count: usize, done: usize) -> usize
     if backward { count - 1 - done } else { done }
 }
 
-// A move, or backward the move that takes it back: forms 1 and 2 undo each other, and so do 3 and 4.
+// A move, or backward the move that takes it back.
 fn directed(backward: bool, m: Move) -> Move
-    requires { m.form < 4 }
-    ensures slots { (result.changed ≡ m.changed) × (result.other ≡ m.other) × (result.form < 4) }
-    ensures directed { move_of result ≡ directed_move backward (move_of m) }
+    ensures slots { (result.changed ≡ m.changed) × (result.other ≡ m.other) }
+    ensures directed { result ≡ directed_move backward m }
 {
-    if !backward {
-        return m;
-    }
-    let form = m.form;
-    let undoing = if form % 2 == 0 { form + 1 } else { form - 1 };
-    Move {
-        changed: m.changed,
-        form: undoing,
-        other: m.other,
-    }
+    if backward { m.undo() } else { m }
 }

@@ -1,9 +1,12 @@
 -- The run of moves: the words, the log and the marks after each of them, and what the run comes to.
+use Rattle.std.specs.Prelude.{None, Option, is_none, is_some}
+use Rattle.systems.proofs.Logic.{told_none}
+use mathlib.Core.Bool.{not}
 use Prim.Native.Nat.{◌*◌, ◌+◌, ◌<◌, ◌≤◌, ℕ}
 use mathlib.Core.Bool.{Bool, true}
 use mathlib.Core.List.{List, ◌++◌, append_assoc}
 use mathlib.Core.Logic.{inl, inr}
-use mathlib.Core.Option.{some}
+use Rattle.std.specs.Prelude.{Some}
 use mathlib.Core.Path.{◌∙◌, ◌≡◌, ap, ap₂, refl, sym}
 use native.Mathlib.Omega.{arith}
 use lib.Dec.{leb}
@@ -14,17 +17,15 @@ use Rattle.words.specs.Alphabet.{bytes}
 use Rattle.words.specs.Buffers.{written}
 use Rattle.words.specs.Words.{inverse}
 use Rattle.words.proofs.Alphabet.{byte_laws}
-use Rattle.systems.specs.Moves.{Move, made, made_all, moved_word}
+use Rattle.systems.specs.Moves.{made, made_all, moved_word}
+use Rattle.systems.specs.declared.Move.{Move}
 use Rattle.systems.specs.Products.{word}
 use Rattle.systems.specs.Rules.{half_end, moves_within, next, run_within, shortening}
 use Rattle.systems.proofs.Neither.{next-half_end, next-shortening, next_valid}
 use Rattle.systems.proofs.Runs.{ended_moves, turn_length, turn_moves, turn_run}
 use Rattle.slots.specs.Held.{Held, held, held_word}
 use Rattle.slots.proofs.Holding.{held-length, held-short, held_word_lem}
-use Rattle.moves.specs.Found.{FoundBelow, found_move, move_of}
-use Rattle.moves.specs.declared.found.Found.{Found}
-use Rattle.moves.specs.declared.found.Found.TheVariants.{Nothing, Move as FoundMove}
-use Rattle.moves.specs.declared.found.Move.{Move as CodeMove}
+use Rattle.moves.specs.Found.{FoundBelow}
 use Rattle.moves.specs.Logs.{log_of, log_record, move_size}
 use Rattle.moves.proofs.LogBack.{log_of_last, log_of-length}
 use Rattle.marks.specs.Marks.{Marked, PairsSet, Settled}
@@ -32,55 +33,55 @@ use Rattle.marks.proofs.Marking.{marked_blank, marked_made, settled_made}
 use Rattle.inverses.specs.Inverses.{Inverted}
 use Rattle.inverses.proofs.Inverting.{inverted_again}
 use Rattle.shortening.proofs.Searching.{blank_changed, blank_other}
-use Rattle.runs.specs.Runs.{FoundNext, is_none, stopped}
+use Rattle.runs.specs.Runs.{FoundNext, stopped}
 
 -- the next move: a shortening, or else a half-end move
-module _ (S : List (List ℕ)) (found : Found) (told : found_move found ≡ shortening bytes S) where
-  pub next-found : {m : CodeMove} (n : ℕ) → found ≡ FoundMove m → FoundBelow n found → FoundNext n S found
+module _ (S : List (List ℕ)) (found : Option Move) (told : found ≡ shortening bytes S) where
+  pub next-found : {m : Move} (n : ℕ) → found ≡ Some m → FoundBelow n found → FoundNext n S found
   next-found {m} n e below =
-      record { found = ap found_move e ∙ sym (next-shortening bytes S (move_of m) (sym told ∙ ap found_move e)); below = below }
+      record { found = e ∙ sym (next-shortening bytes S m (sym told ∙ e)); below = below }
 
-  pub next-other : (n : ℕ) (half : Found) → found ≡ Nothing → found_move half ≡ half_end bytes S → FoundBelow n half → FoundNext n S half
-  next-other n half e d below = record { found = d ∙ sym (next-half_end bytes S (sym told ∙ ap found_move e)); below = below }
+  pub next-other : (n : ℕ) (half : Option Move) → found ≡ None → half ≡ half_end bytes S → FoundBelow n half → FoundNext n S half
+  next-other n half e d below = record { found = d ∙ sym (next-half_end bytes S (sym told ∙ e)); below = below }
 
 -- what was found for the next move
-module _ (n : ℕ) (S : List (List ℕ)) (r : Found) (told : FoundNext n S r) where
-  pub found_move_lem : {m : CodeMove} → r ≡ FoundMove m → FoundNext n S (FoundMove m)
+module _ (n : ℕ) (S : List (List ℕ)) (r : Option Move) (told : FoundNext n S r) where
+  pub found_move_lem : {m : Move} → r ≡ Some m → FoundNext n S (Some m)
   found_move_lem e = rw e at told
 
 -- a move of the rules fits its slot
-next_fits : (n : ℕ) (letters lengths : List ℕ) (m : CodeMove) → Held n letters lengths → FoundNext n (held n letters lengths) (FoundMove m)
-    → leb (length (moved_word bytes (held n letters lengths) (move_of m))) 63 ≡ true
+next_fits : (n : ℕ) (letters lengths : List ℕ) (m : Move) → Held n letters lengths → FoundNext n (held n letters lengths) (Some m)
+    → leb (length (moved_word bytes (held n letters lengths) m)) 63 ≡ true
 next_fits n letters lengths m here told =
-    let bound : length (moved_word bytes (held n letters lengths) (move_of m)) ≤ 63 =
+    let bound : length (moved_word bytes (held n letters lengths) m) ≤ 63 =
     omega (
       arith,
-      (next_valid bytes byte_laws (held n letters lengths) here.freely (move_of m) (sym told.found)).no_longer,
+      (next_valid bytes byte_laws (held n letters lengths) here.freely m (sym told.found)).no_longer,
       held-short letters lengths _ m.changed here.short (held_word_lem n m.changed letters lengths told.below.0),
     ) in
     le-leb _ _ bound
 
 -- the words and the marks after the next move
-module _ (n : ℕ) (letters lengths : List ℕ) (T : List (List ℕ)) {r : Bool} (m : CodeMove)
-    (told : FoundNext n (held n letters lengths) (FoundMove m)) (here : Held n letters lengths)
-    (fits : r ≡ leb (length (moved_word bytes (held n letters lengths) (move_of m))) 63)
-    (done : r ≡ true → T ≡ made bytes (held n letters lengths) (move_of m)) where
-  pub advanced : T ≡ made bytes (held n letters lengths) (move_of m)
+module _ (n : ℕ) (letters lengths : List ℕ) (T : List (List ℕ)) {r : Bool} (m : Move)
+    (told : FoundNext n (held n letters lengths) (Some m)) (here : Held n letters lengths)
+    (fits : r ≡ leb (length (moved_word bytes (held n letters lengths) m)) 63)
+    (done : r ≡ true → T ≡ made bytes (held n letters lengths) m) where
+  pub advanced : T ≡ made bytes (held n letters lengths) m
   advanced = done (fits ∙ next_fits n letters lengths m here told)
 
   pub advanced_marked : (marks marks' : List ℕ) → Marked n (held n letters lengths) marks → PairsSet m.changed 0 marks marks' → Marked n T marks'
   advanced_marked marks marks' marked gone =
-      rw advanced (marked_made n (held n letters lengths) (move_of m) marks marks' here.few marked gone)
+      rw advanced (marked_made n (held n letters lengths) m marks marks' here.few marked gone)
 
 -- and the inverses, of which that of the changed slot was formed again
-pub advanced_inverted : (n : ℕ) (letters lengths letters' lengths' inverses inverses' : List ℕ) {r : Bool} (m : CodeMove)
-    → FoundNext n (held n letters lengths) (FoundMove m) → Held n letters lengths → r ≡ leb (length (moved_word bytes (held n letters lengths) (move_of m))) 63
-    → (r ≡ true → held n letters' lengths' ≡ made bytes (held n letters lengths) (move_of m)) → Held n letters' lengths'
+pub advanced_inverted : (n : ℕ) (letters lengths letters' lengths' inverses inverses' : List ℕ) {r : Bool} (m : Move)
+    → FoundNext n (held n letters lengths) (Some m) → Held n letters lengths → r ≡ leb (length (moved_word bytes (held n letters lengths) m)) 63
+    → (r ≡ true → held n letters' lengths' ≡ made bytes (held n letters lengths) m) → Held n letters' lengths'
     → Inverted n letters inverses lengths → length inverses' ≡ length inverses
     → held_word inverses' lengths' m.changed ≡ inverse bytes (held_word letters' lengths' m.changed)
     → ((j : ℕ) → (j ≡ m.changed → ⊥) → held_word inverses' lengths' j ≡ held_word inverses lengths' j) → Inverted n letters' inverses' lengths'
 advanced_inverted n letters lengths letters' lengths' inverses inverses' m told here fits done there before same formed others =
-    inverted_again n m.changed letters lengths letters' lengths' inverses inverses' (moved_word bytes (held n letters lengths) (move_of m)) here there
+    inverted_again n m.changed letters lengths letters' lengths' inverses inverses' (moved_word bytes (held n letters lengths) m) here there
     (advanced n letters lengths (held n letters' lengths') m told here fits done) before same formed others
 
 -- the pairs with a blank slot
@@ -96,11 +97,11 @@ blank_marked n c size v letters lengths marks marks' here inside told blank mark
     ])
 
 -- the slots before the one changed are now shortened by that one alone
-module _ (n : ℕ) (letters lengths : List ℕ) (m : CodeMove) (T : List (List ℕ)) (told : FoundNext n (held n letters lengths) (FoundMove m))
-    (turned : T ≡ made bytes (held n letters lengths) (move_of m)) where
+module _ (n : ℕ) (letters lengths : List ℕ) (m : Move) (T : List (List ℕ)) (told : FoundNext n (held n letters lengths) (Some m))
+    (turned : T ≡ made bytes (held n letters lengths) m) where
   pub found_settled : Settled n T m.changed
   found_settled =
-      settled_made n (held n letters lengths) T (move_of m) (held-length n letters lengths) told.below.0 (sym told.found) turned
+      settled_made n (held n letters lengths) T m (held-length n letters lengths) told.below.0 (sym told.found) turned
 
 -- where a run stands: the words after so many moves, the log of them and the marks
 pub record Standing (n : ℕ) (letters₀ lengths₀ log₀ letters lengths log marks : List ℕ) (used : ℕ) : Type 0 where
@@ -121,7 +122,7 @@ module _ (n : ℕ) (letters₀ lengths₀ log₀ letters lengths log marks : Lis
   log_long = log_of-length (moves_within bytes used (held n letters₀ lengths₀)) ∙ ap (λ (k : ℕ). k * move_size) standing.count
 
   -- one log record more
-  log-more : (m : Move) (log' : List ℕ) → next bytes (held n letters lengths) ≡ some m
+  log-more : (m : Move) (log' : List ℕ) → next bytes (held n letters lengths) ≡ Some m
       → log' ≡ take (used * move_size) log ++ (log_record m ++ drop (used * move_size + move_size) log)
       → log' ≡ log_of (moves_within bytes (used + 1) (held n letters₀ lengths₀)) ++ drop ((used + 1) * move_size) log₀
   log-more m log' more after =
@@ -140,30 +141,30 @@ module _ (n : ℕ) (letters₀ lengths₀ log₀ letters lengths log marks : Lis
       ∙ ap log_of (turn_moves bytes S (held n letters lengths) used standing.words m more (moves_within bytes used S) refl))
 
   -- a move is made and logged
-  pub standing_turn : (letters' lengths' log' marks' : List ℕ) (used' : ℕ) (m : CodeMove)
-      → FoundNext n (held n letters lengths) (FoundMove m) → used' ≡ used + 1
-      → held n letters' lengths' ≡ made bytes (held n letters lengths) (move_of m) → Held n letters' lengths'
+  pub standing_turn : (letters' lengths' log' marks' : List ℕ) (used' : ℕ) (m : Move)
+      → FoundNext n (held n letters lengths) (Some m) → used' ≡ used + 1
+      → held n letters' lengths' ≡ made bytes (held n letters lengths) m → Held n letters' lengths'
       → Marked n (held n letters' lengths') marks'
-      → log' ≡ take (used * move_size) log ++ (log_record (move_of m) ++ drop (used * move_size + move_size) log)
+      → log' ≡ take (used * move_size) log ++ (log_record m ++ drop (used * move_size + move_size) log)
       → Standing n letters₀ lengths₀ log₀ letters' lengths' log' marks' used'
   standing_turn letters' lengths' log' marks' used' m told counted turned here marked after =
       let S : List (List ℕ) = held n letters₀ lengths₀ in
       let T : List (List ℕ) = held n letters lengths in
-      let more : next bytes T ≡ some (move_of m) = sym told.found in
+      let more : next bytes T ≡ Some m = sym told.found in
       record {
         here = here;
-        words = rw counted (turned ∙ turn_run bytes S T used standing.words (move_of m) more);
-        count = rw counted (turn_length bytes S T used standing.words (move_of m) more);
-        logged = rw counted (log-more (move_of m) log' more after);
+        words = rw counted (turned ∙ turn_run bytes S T used standing.words m more);
+        count = rw counted (turn_length bytes S T used standing.words m more);
+        logged = rw counted (log-more m log' more after);
         marked = marked;
       }
 
   -- where nothing is found, more room changes nothing
-  pub same_ended : (r : Found) (room : ℕ) → FoundNext n (held n letters lengths) r → r ≡ Nothing → used ≤ room
+  pub same_ended : (r : Option Move) (room : ℕ) → FoundNext n (held n letters lengths) r → r ≡ None → used ≤ room
       → moves_within bytes used (held n letters₀ lengths₀) ≡ moves_within bytes room (held n letters₀ lengths₀)
   same_ended r room told nothing enough =
       sym (ended_moves bytes (held n letters₀ lengths₀) (held n letters lengths) used standing.words
-      (sym told.found ∙ ap found_move nothing) room enough (moves_within bytes used (held n letters₀ lengths₀)) refl)
+      (sym told.found ∙ nothing) room enough (moves_within bytes used (held n letters₀ lengths₀)) refl)
 
   -- what the run came to, where the moves made are those that the room allows
   module _ (room : ℕ) (same : moves_within bytes used (held n letters₀ lengths₀) ≡ moves_within bytes room (held n letters₀ lengths₀)) where
@@ -173,9 +174,9 @@ module _ (n : ℕ) (letters₀ lengths₀ log₀ letters lengths log marks : Lis
     pub came_words : held n letters lengths ≡ run_within bytes room (held n letters₀ lengths₀)
     came_words = standing.words ∙ ap (made_all bytes (held n letters₀ lengths₀)) same
 
-    pub came_ended : (r : Found) {ended : Bool} → FoundNext n (held n letters lengths) r → ended ≡ is_none (found_move r)
+    pub came_ended : (r : Option Move) {ended : Bool} → FoundNext n (held n letters lengths) r → is_some r ≡ not ended
         → ended ≡ stopped (run_within bytes room (held n letters₀ lengths₀))
-    came_ended r told e = e ∙ ap is_none told.found ∙ ap stopped came_words
+    came_ended r told e = told_none r e ∙ ap is_none told.found ∙ ap stopped came_words
 
     pub came_log : log ≡ written (log_of (moves_within bytes room (held n letters₀ lengths₀))) log₀
     came_log =

@@ -7,20 +7,19 @@ ghost use Rattle.words.specs.Buffers.{written};
 ghost use Rattle.systems.specs.Moves.{made};
 ghost use Rattle.systems.specs.Rules.{moves_within, run_within};
 ghost use Rattle.slots.specs.Held.{Held, held};
-ghost use Rattle.moves.specs.Found.{found_move, move_of};
 ghost use Rattle.moves.specs.Logs.{log_of, log_record, move_size};
 ghost use Rattle.marks.specs.Marks.{Marked, Settled};
 ghost use Rattle.inverses.specs.Inverses.{Inverted};
-ghost use Rattle.runs.specs.Runs.{FoundNext, is_none, room_for, stopped};
+ghost use Rattle.runs.specs.Runs.{FoundNext, room_for, stopped};
 
 use half_ends::find_half_end;
 use inverses::{invert_word, invert_words};
 use marks::set_pairs;
-use moves::found::{Found, Move};
 use moves::log::{MOVE, write_move};
 use moves::make::make_move;
 use shortening::find_shortening;
 use slots::held::length_of;
+use systems::Move;
 
 // The next move of the rules: a shortening, or else a half-end move.
 pub fn find_move(
@@ -30,7 +29,7 @@ pub fn find_move(
     n: usize,
     last: usize,
     marks: &mut [u8],
-) -> Found
+) -> Option<Move>
     requires last_slot { last ≤ n - 1 }
     requires held { Held n letters.now lengths.now }
     requires inverted { Inverted n letters.now inverses.now lengths.now }
@@ -41,20 +40,10 @@ pub fn find_move(
     ensures marked { Marked n (held n letters.now lengths.now) marks.new }
 {
     let found = find_shortening(letters, inverses, lengths, n, last, marks);
-    let Found::Nothing = found else {
+    let None = found else {
         return found;
     };
     find_half_end(letters, inverses, lengths, n)
-}
-
-// Whether a search found nothing.
-pub fn is_nothing(found: Found) -> bool
-    ensures { result ≡ is_none (found_move found) }
-{
-    match found {
-        Found::Nothing => true,
-        Found::Move(_) => false,
-    }
 }
 
 // What a run came to: how many moves were made, and whether neither rule applies any more.
@@ -92,8 +81,8 @@ fn advance(
     requires inverted { Inverted n letters.old inverses.old lengths.old }
     requires table { length marks.old ≡ 256 }
     requires marked { Marked n (held n letters.old lengths.old) marks.old }
-    requires found_next { FoundNext n (held n letters.old lengths.old) (Found.Move m) }
-    ensures words { held n letters.new lengths.new ≡ made bytes (held n letters.old lengths.old) (move_of m) }
+    requires found_next { FoundNext n (held n letters.old lengths.old) (Some m) }
+    ensures words { held n letters.new lengths.new ≡ made bytes (held n letters.old lengths.old) m }
     ensures held { Held n letters.new lengths.new }
     ensures inverted { Inverted n letters.new inverses.new lengths.new }
     ensures marked { Marked n (held n letters.new lengths.new) marks.new }
@@ -115,19 +104,19 @@ fn take_move(
     marks: &mut [u8],
     log: &mut [u8],
     used: usize,
-) -> Found
+) -> Option<Move>
     requires held { Held n letters.old lengths.old }
     requires inverted { Inverted n letters.old inverses.old lengths.old }
     requires table { length marks.old ≡ 256 }
     requires marked { Marked n (held n letters.old lengths.old) marks.old }
-    requires found_next { FoundNext n (held n letters.old lengths.old) (Found.Move m) }
+    requires found_next { FoundNext n (held n letters.old lengths.old) (Some m) }
     requires room { used * move_size + move_size ≤ length log.old }
     ensures found { FoundNext n (held n letters.new lengths.new) result }
-    ensures words { held n letters.new lengths.new ≡ made bytes (held n letters.old lengths.old) (move_of m) }
+    ensures words { held n letters.new lengths.new ≡ made bytes (held n letters.old lengths.old) m }
     ensures held { Held n letters.new lengths.new }
     ensures inverted { Inverted n letters.new inverses.new lengths.new }
     ensures marked { Marked n (held n letters.new lengths.new) marks.new }
-    ensures log { log.new ≡ take (used * move_size) log.old ++ (log_record (move_of m) ++ drop (used * move_size + move_size) log.old) }
+    ensures log { log.new ≡ take (used * move_size) log.old ++ (log_record m ++ drop (used * move_size + move_size) log.old) }
 {
     advance(letters, inverses, lengths, n, m, marks);
     write_move(log, used, m);
@@ -156,7 +145,7 @@ fn run_from(
     inverses: &mut [u8],
     lengths: &mut [usize],
     n: usize,
-    first: Found,
+    first: Option<Move>,
     marks: &mut [u8],
     log: &mut [u8],
 ) -> Ran
@@ -175,7 +164,7 @@ fn run_from(
     let mut found = first;
     let mut used = 0;
     while used < room {
-        let Found::Move(m) = found else {
+        let Some(m) = found else {
             break;
         };
         found = take_move(letters, inverses, lengths, n, m, marks, log, used);
@@ -183,6 +172,6 @@ fn run_from(
     }
     Ran {
         moves: used,
-        ended: is_nothing(found),
+        ended: found.is_none(),
     }
 }

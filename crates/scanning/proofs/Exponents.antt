@@ -13,8 +13,6 @@ use borrow.Author.Tests.{eq-eqb, le-leb, lt-leb, ne_eqb}
 use Rattle.words.proofs.Buffers.{drop_here, rest_part}
 use Rattle.systems.proofs.Logic.{bool_cases}
 use Rattle.records.specs.Refusals.{◌and_then◌, must}
-use Rattle.records.specs.declared.answers.Checked.{Checked}
-use Rattle.records.specs.declared.answers.Checked.TheVariants.{Failed, Fine}
 use Rattle.records.specs.declared.answers.Refusal.{Refusal}
 use Rattle.records.proofs.Chains.{never, told_false, told_true}
 use Rattle.syntax.specs.Trees.{is_digit}
@@ -22,6 +20,9 @@ use Rattle.syntax.specs.Parse.{power_of}
 use Rattle.syntax.specs.Rules.{exponent_rule, power_within}
 use Rattle.scanning.specs.Exponents.{digits_exponent, exponent_of, has_second_digit, no_exponent}
 use Rattle.scanning.specs.declared.exponent.Exponent.{Exponent}
+use Rattle.records.specs.declared.refusals.Reason.TheVariants.{ExponentOutOfRange}
+use Rattle.std.specs.Prelude.{Err, Ok}
+use Rattle.records.specs.Refusals.{Checked}
 
 pub digit_low : (b : ℕ) → b < 48 → false ≡ is_digit b
 digit_low b h = rw (lt-leb 48 b h)
@@ -98,16 +99,16 @@ power_within_lem (b ∷ c ∷ r) = elim (bool_cases (eqb b 94)) [
 
 -- 18 on what is left of a text: the test at the next byte, and then the bytes after it
 module _ (text : List ℕ) (i : ℕ) (here : exponent_rule text 0 ≡ exponent_rule (drop i text) i) where
-  pub exponents_end : length text ≤ i → Fine ≡ exponent_rule text 0
+  pub exponents_end : length text ≤ i → Ok tt ≡ exponent_rule text 0
   exponents_end l = rw (here, drop_of_length-le text l)
 
   module _ {p : Exponent} {x : Checked} (inside : i < length text) (told : p ≡ exponent_of (take (length text - i) (drop i text)))
-      (e : x ≡ must (leb p.number 63) 18 i) where
+      (e : x ≡ must (leb p.number 63) ExponentOutOfRange i) where
     exponents_here : exponent_rule text 0 ≡ x and_then exponent_rule (drop (i + 1) text) (i + 1)
     exponents_here = rw (here, e, told, rest_part text i, ← power_within_lem (drop i text), drop_here text i inside)
 
-    pub exponents_fail : {f : Refusal} → x ≡ Failed f → x ≡ exponent_rule text 0
+    pub exponents_fail : {f : Refusal} → x ≡ Err f → x ≡ exponent_rule text 0
     exponents_fail bad = rw (exponents_here, bad)
 
-    pub exponents_pass : x ≡ Fine → exponent_rule text 0 ≡ exponent_rule (drop (i + 1) text) (i + 1)
+    pub exponents_pass : x ≡ Ok tt → exponent_rule text 0 ≡ exponent_rule (drop (i + 1) text) (i + 1)
     exponents_pass good = rw (exponents_here, good)

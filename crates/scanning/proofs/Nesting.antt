@@ -12,12 +12,13 @@ use borrow.Author.Tests.{eq-eqb, ltb-true, lt-ltb, ne_eqb}
 use Rattle.words.proofs.Buffers.{drop_here}
 use Rattle.systems.proofs.Logic.{bool_cases}
 use Rattle.records.specs.Refusals.{◌and_then◌, must}
-use Rattle.records.specs.declared.answers.Checked.{Checked}
-use Rattle.records.specs.declared.answers.Checked.TheVariants.{Failed, Fine}
 use Rattle.records.specs.declared.answers.Refusal.{Refusal}
 use Rattle.records.proofs.Chains.{must_passed}
 use Rattle.syntax.specs.Rules.{nesting_rule}
 use Rattle.scanning.specs.Signs.{is_closing, is_opening, room_after}
+use Rattle.records.specs.declared.refusals.Reason.TheVariants.{NestingTooDeep}
+use Rattle.std.specs.Prelude.{Err, Ok}
+use Rattle.records.specs.Refusals.{Checked}
 
 -- a byte that opens, closes or does neither, and the room after it
 module _ (b : ℕ) where
@@ -51,7 +52,7 @@ room_grows b room i e h = elim (bool_cases (is_opening b)) [
 
 -- the rule at the next byte: the test, and then the bytes after it
 nesting_step : (room b : ℕ) (r : List ℕ) (k : ℕ) → 0 < room
-    → nesting_rule (room - 1) (b ∷ r) k ≡ must (ltb 0 (room_after b room)) 17 k and_then nesting_rule (room_after b room - 1) r (k + 1)
+    → nesting_rule (room - 1) (b ∷ r) k ≡ must (ltb 0 (room_after b room)) NestingTooDeep k and_then nesting_rule (room_after b room - 1) r (k + 1)
 nesting_step zero b r k h = absurd (omega arith)
 nesting_step (suc n) b r k h =
     let less : suc n - 1 ≡ n = omega arith in
@@ -64,26 +65,26 @@ nesting_step (suc n) b r k h =
       ]
     ]
   where
-    opened : (m : ℕ) → is_opening b ≡ true → nesting_rule m (b ∷ r) k ≡ must (ltb 0 m) 17 k and_then nesting_rule (m - 1) r (k + 1)
+    opened : (m : ℕ) → is_opening b ≡ true → nesting_rule m (b ∷ r) k ≡ must (ltb 0 m) NestingTooDeep k and_then nesting_rule (m - 1) r (k + 1)
     opened zero e = rw (e, nesting_rule)
     opened (suc m) e =
         let less : suc m - 1 ≡ m = omega arith in
         rw (e, nesting_rule, lt-ltb 0 (suc m) (omega arith), less)
 
 module _ (text : List ℕ) (room i : ℕ) (here : nesting_rule 8 text 0 ≡ nesting_rule (room - 1) (drop i text) i) where
-  pub nesting_end : length text ≤ i → Fine ≡ nesting_rule 8 text 0
+  pub nesting_end : length text ≤ i → Ok tt ≡ nesting_rule 8 text 0
   nesting_end l = rw (here, drop_of_length-le text l)
 
   module _ {n : ℕ} {x : Checked} (inside : i < length text) (left : 0 < room)
-      (more : n ≡ room_after (get_or text i 0) room) (e : x ≡ must (ltb 0 n) 17 i) where
+      (more : n ≡ room_after (get_or text i 0) room) (e : x ≡ must (ltb 0 n) NestingTooDeep i) where
     nesting_here : nesting_rule 8 text 0 ≡ x and_then nesting_rule (n - 1) (drop (i + 1) text) (i + 1)
     nesting_here = rw (here, e, more, drop_here text i inside, nesting_step room (get_or text i 0) (drop (i + 1) text) i left)
 
-    pub nesting_fail : {f : Refusal} → x ≡ Failed f → x ≡ nesting_rule 8 text 0
+    pub nesting_fail : {f : Refusal} → x ≡ Err f → x ≡ nesting_rule 8 text 0
     nesting_fail bad = rw (nesting_here, bad)
 
-    pub nesting_pass : x ≡ Fine → nesting_rule 8 text 0 ≡ nesting_rule (n - 1) (drop (i + 1) text) (i + 1)
+    pub nesting_pass : x ≡ Ok tt → nesting_rule 8 text 0 ≡ nesting_rule (n - 1) (drop (i + 1) text) (i + 1)
     nesting_pass good = rw (nesting_here, good)
 
-    pub room_left : x ≡ Fine → 0 < n
-    room_left good = ltb-true 0 n (must_passed (ltb 0 n) 17 i e good)
+    pub room_left : x ≡ Ok tt → 0 < n
+    room_left good = ltb-true 0 n (must_passed (ltb 0 n) NestingTooDeep i e good)

@@ -5,7 +5,7 @@ use mathlib.Core.Path.{◌∙◌, ◌≡◌, ap, refl, sym}
 use mathlib.Core.Bool.{Bool, false, true}
 use mathlib.Core.List.{List, [], ◌∷◌}
 use mathlib.Core.Logic.{inl, inr}
-use mathlib.Core.Option.{Option, none, some}
+use Rattle.std.specs.Prelude.{None, Option, Some}
 use native.Mathlib.Decide.{ℕ_discrete}
 use native.Mathlib.Numerals.{add-one}
 use native.Mathlib.Omega.{arith}
@@ -16,8 +16,6 @@ use Rattle.words.proofs.Buffers.{drop_here}
 use Rattle.systems.proofs.Logic.{bool_cases}
 use Rattle.records.specs.Records.{is_letter}
 use Rattle.records.specs.Refusals.{◌and_then◌, must}
-use Rattle.records.specs.declared.answers.Checked.{Checked}
-use Rattle.records.specs.declared.answers.Checked.TheVariants.{Failed, Fine}
 use Rattle.records.specs.declared.answers.Refusal.{Refusal}
 use Rattle.syntax.specs.Trees.{is_digit}
 use Rattle.syntax.specs.Scan.{Open, State, awaited, closed, closing, complete, scan, shape_rule, state, step, step_product}
@@ -25,6 +23,9 @@ use Rattle.syntax.specs.declared.Mode.{Mode}
 use Rattle.syntax.specs.declared.Mode.TheVariants.{After, Caret, Minus, OneDigit, Ready}
 use Rattle.scanning.specs.Signs.{complete_at, digit_taken, open_of, opens_in, refused, scanned_state, taken}
 use Rattle.scanning.specs.declared.shape.Scanned.{Scanned}
+use Rattle.records.specs.declared.refusals.Reason.TheVariants.{TextMalformed}
+use Rattle.std.specs.Prelude.{Err, Ok}
+use Rattle.records.specs.Refusals.{Checked}
 
 -- the byte that an open sign waits for
 module _ (v : ℕ) where
@@ -152,28 +153,28 @@ complete_at_lem Minus (suc n) signs = refl
 complete_at_lem OneDigit (suc n) signs = refl
 
 scan-next : (q : State) (b : ℕ) (rest : List ℕ) (k : ℕ) (r : Scanned) (signs : List ℕ) → scanned_state r signs ≡ step q.mode q.opens b
-    → scan q (b ∷ rest) k ≡ must r.taken 16 k and_then scan (state r.mode (opens_in r.depth signs)) rest (k + 1)
+    → scan q (b ∷ rest) k ≡ must r.taken TextMalformed k and_then scan (state r.mode (opens_in r.depth signs)) rest (k + 1)
 scan-next q b rest k r signs next = elim (bool_cases r.taken) [
   | inl h ↦
-      let on : step q.mode q.opens b ≡ some (state r.mode (opens_in r.depth signs)) = sym next ∙ rw h in
+      let on : step q.mode q.opens b ≡ Some (state r.mode (opens_in r.depth signs)) = sym next ∙ rw h in
       rw (h, on, scan)
   | inr h ↦
-      let off : step q.mode q.opens b ≡ none = sym next ∙ rw h in
+      let off : step q.mode q.opens b ≡ None = sym next ∙ rw h in
       rw (h, off, scan)
 ]
 
 module _ (text : List ℕ) (m : Mode) (n : ℕ) (signs : List ℕ) (i : ℕ) (here : shape_rule text ≡ scan (state m (opens_in n signs)) (drop i text) i) where
-  pub shape_end : {t : Bool} {x : Checked} → length text ≤ i → t ≡ complete_at m n → x ≡ must t 16 i → x ≡ shape_rule text
+  pub shape_end : {t : Bool} {x : Checked} → length text ≤ i → t ≡ complete_at m n → x ≡ must t TextMalformed i → x ≡ shape_rule text
   shape_end l e told = rw (here, drop_of_length-le text l, told, e, complete_at_lem m n signs)
       (elim (bool_cases (complete_at m n)) [ inl h ↦ rw h | inr h ↦ rw h ])
 
   module _ {x : Checked} (r : Scanned) (signs' : List ℕ) (inside : i < length text)
-      (next : scanned_state r signs' ≡ step m (opens_in n signs) (get_or text i 0)) (e : x ≡ must r.taken 16 i) where
+      (next : scanned_state r signs' ≡ step m (opens_in n signs) (get_or text i 0)) (e : x ≡ must r.taken TextMalformed i) where
     shape_here : shape_rule text ≡ x and_then scan (state r.mode (opens_in r.depth signs')) (drop (i + 1) text) (i + 1)
     shape_here = rw (here, e, drop_here text i inside) (scan-next (state m (opens_in n signs)) (get_or text i 0) (drop (i + 1) text) i r signs' next)
 
-    pub shape_fail : {f : Refusal} → x ≡ Failed f → x ≡ shape_rule text
+    pub shape_fail : {f : Refusal} → x ≡ Err f → x ≡ shape_rule text
     shape_fail bad = rw (shape_here, bad)
 
-    pub shape_pass : x ≡ Fine → shape_rule text ≡ scan (state r.mode (opens_in r.depth signs')) (drop (i + 1) text) (i + 1)
+    pub shape_pass : x ≡ Ok tt → shape_rule text ≡ scan (state r.mode (opens_in r.depth signs')) (drop (i + 1) text) (i + 1)
     shape_pass good = rw (shape_here, good)

@@ -1,6 +1,6 @@
 -- What the scans keep in numbers: the open signs in an array, and how many more may stand open. No public contract speaks of it.
 use Rattle.std.specs.Prelude.{◌+◌, ◌-◌, suc, zero, ℕ, Bool, ◌||◌, cond, false, true, List, [], ◌∷◌, eqb, get_or}
-use Rattle.std.proofs.Math.Option.{Option, none, some}
+use Rattle.std.specs.Prelude.{None, Option, Some}
 use Rattle.syntax.specs.Trees.{is_digit}
 use Rattle.syntax.specs.Scan.{Open, State, complete, first, round, second, state}
 use Rattle.syntax.specs.declared.Mode.{Mode}
@@ -34,7 +34,7 @@ digit_taken b n = cond (is_digit b) (taken OneDigit n) refused
 
 -- the state that one byte more leads to
 abbrev pub scanned_state : Scanned → List ℕ → Option State
-scanned_state r signs = cond r.taken (some (state r.mode (opens_in r.depth signs))) none
+scanned_state r signs = cond r.taken (Some (state r.mode (opens_in r.depth signs))) None
 
 -- a byte opens a group or a bracket, or closes one
 abbrev pub is_opening : ℕ → Bool

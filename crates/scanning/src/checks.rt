@@ -5,8 +5,8 @@ ghost use Rattle.scanning.specs.Signs.{is_opening, room_after};
 
 use crate::exponent::read_exponent;
 use crate::shape::check_shape;
-use records::answers::{Checked, check_that};
-use records::refusals::{EXPONENT_OUT_OF_RANGE, NESTING_TOO_DEEP, TEXT_MALFORMED};
+use records::answers::{Refusal, check_that};
+use records::refusals::Reason;
 use syntax::{BRACKET_CLOSES, BRACKET_OPENS, GROUP_CLOSES, GROUP_OPENS};
 
 // The most bytes of a text.
@@ -19,26 +19,26 @@ pub const DEEPEST: usize = 8;
 const LARGEST: usize = 63;
 
 // Refusals 16, 17 and 18.
-pub fn check_text(text: &[u8]) -> Checked
+pub fn check_text(text: &[u8]) -> Result<(), Refusal>
     ensures { result ≡ text_rules text.now }
 {
-    let sized = check_that(text.len() <= LONGEST_TEXT, TEXT_MALFORMED, 0);
-    let Checked::Fine = sized else {
+    let sized = check_that(text.len() <= LONGEST_TEXT, Reason::TextMalformed, 0);
+    let Ok(()) = sized else {
         return sized;
     };
     let shaped = check_shape(text);
-    let Checked::Fine = shaped else {
+    let Ok(()) = shaped else {
         return shaped;
     };
     let nested = check_nesting(text);
-    let Checked::Fine = nested else {
+    let Ok(()) = nested else {
         return nested;
     };
     check_exponents(text)
 }
 
 // Refusal 17, at the first sign that nests too deep: the room is one more than the number of signs that may still be opened.
-fn check_nesting(text: &[u8]) -> Checked
+fn check_nesting(text: &[u8]) -> Result<(), Refusal>
     requires { length text.now ≤ 256 }
     ensures { result ≡ nesting_rule 8 text.now 0 }
 {
@@ -46,13 +46,13 @@ fn check_nesting(text: &[u8]) -> Checked
     let mut i = 0;
     while i < text.len() {
         room = room_after(text[i], room);
-        let checked = check_that(room > 0, NESTING_TOO_DEEP, i);
-        let Checked::Fine = checked else {
+        let checked = check_that(room > 0, Reason::NestingTooDeep, i);
+        let Ok(()) = checked else {
             return checked;
         };
         i += 1;
     }
-    Checked::Fine
+    Ok(())
 }
 
 // The room after a byte.
@@ -82,18 +82,18 @@ fn opens(b: u8) -> bool
 }
 
 // Refusal 18: at the caret of the first exponent out of range.
-fn check_exponents(text: &[u8]) -> Checked
+fn check_exponents(text: &[u8]) -> Result<(), Refusal>
     requires { length text.now ≤ 256 }
     ensures { result ≡ exponent_rule text.now 0 }
 {
     let mut i = 0;
     while i < text.len() {
         let exponent = read_exponent(&text[i..]);
-        let checked = check_that(exponent.number <= LARGEST, EXPONENT_OUT_OF_RANGE, i);
-        let Checked::Fine = checked else {
+        let checked = check_that(exponent.number <= LARGEST, Reason::ExponentOutOfRange, i);
+        let Ok(()) = checked else {
             return checked;
         };
         i += 1;
     }
-    Checked::Fine
+    Ok(())
 }

@@ -4,9 +4,9 @@ ghost use Rattle.syntax.specs.Scan.{awaited, closing, shape_rule, step, step_pro
 ghost use Rattle.scanning.specs.Signs.{complete_at, digit_taken, open_of, opens_in, refused, scanned_state, taken};
 
 use crate::exponent::is_digit;
-use records::answers::{Checked, check_that};
+use records::answers::{Refusal, check_that};
 use records::record::is_letter;
-use records::refusals::TEXT_MALFORMED;
+use records::refusals::Reason;
 use syntax::{BRACKET_CLOSES, BRACKET_OPENS, CARET, COMMA, GROUP_CLOSES, GROUP_OPENS, MINUS, Mode};
 
 // An open sign by number: a group's, and a bracket's before its comma and after it.
@@ -25,7 +25,7 @@ pub struct Scanned {
 }
 
 // Refusal 16 but for the length: at the first byte with which no well-formed text can go on, or at the end.
-pub fn check_shape(text: &[u8]) -> Checked
+pub fn check_shape(text: &[u8]) -> Result<(), Refusal>
     requires { length text.now ≤ 256 }
     ensures { result ≡ shape_rule text.now }
 {
@@ -35,15 +35,15 @@ pub fn check_shape(text: &[u8]) -> Checked
     let mut i = 0;
     while i < text.len() {
         let next = scan_byte(mode, text[i], &mut signs, depth);
-        let checked = check_that(next.taken, TEXT_MALFORMED, i);
-        let Checked::Fine = checked else {
+        let checked = check_that(next.taken, Reason::TextMalformed, i);
+        let Ok(()) = checked else {
             return checked;
         };
         mode = next.mode;
         depth = next.depth;
         i += 1;
     }
-    check_that(may_end(mode, depth), TEXT_MALFORMED, i)
+    check_that(may_end(mode, depth), Reason::TextMalformed, i)
 }
 
 // Whether a text may end here.

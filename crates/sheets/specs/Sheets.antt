@@ -16,6 +16,8 @@ use Rattle.text.specs.Read.{read_answer, read_buffer}
 use Rattle.text.specs.Write.{write_answer, write_buffer}
 use Rattle.output.specs.Output.{program_output}
 use Rattle.lines.specs.Text.{bytes_in}
+use Rattle.records.specs.declared.refusals.Reason.{Reason}
+use Rattle.records.specs.declared.refusals.Reason.TheVariants.{ExponentOutOfRange, NestingTooDeep, ProductBufferShort, SystemNotReduced, SystemTooLong, SystemUneven, TextMalformed, WordTooLong, WordsBufferShort}
 
 -- the record of a word that is given as text, and the system of several
 abbrev pub record_in : String → List ℕ
@@ -54,8 +56,8 @@ pub data Sheet : Type 0 where
   not_member : String → Outcome → String → Sheet
   -- words that are asked, a target, the length of the product buffer, the verdict, and that buffer afterwards
   asks : String → List String → String → ℕ → Verdict → List ℕ → Sheet
-  -- a length of a system, and the number of the refusal that tidy gives to every system of that length
-  refuses : String → ℕ → ℕ → Sheet
+  -- a length of a system, and the reason of the refusal that tidy gives to every system of that length
+  refuses : String → ℕ → Reason → Sheet
   -- a text, the length of the word buffer, the verdict, and that buffer afterwards
   reads : String → String → ℕ → Verdict → List ℕ → Sheet
   -- a length of a text, and the refusal that read gives to every text of that length
@@ -91,8 +93,8 @@ Decides o target verdict product =
     × (member_product (system_in o.given) (record_in target) (words_lent o) (lent 64) (lent 64) ≡ product)
 
 -- a refusal whose place is 0
-abbrev pub refused : ℕ → Verdict
-refused n = refused_with n 0
+abbrev pub refused : Reason → Verdict
+refused why = refused_with why 0
 
 -- what a sheet says
 abbrev pub Says : Sheet → Type 0
@@ -104,8 +106,8 @@ Says (not_member label o target) = Reduces o × Decides o target NotMember (lent
 Says (asks label words target room verdict product) =
     (ask_answer (system_in words) (record_in target) (lent room) ≡ record { verdict = verdict })
     × (ask_product (system_in words) (record_in target) (lent room) ≡ product)
-Says (refuses label n number) =
-    (s buffer : List ℕ) → length s ≡ n → (tidy_answer s buffer ≡ record { verdict = refused number }) × (tidy_buffer s buffer ≡ buffer)
+Says (refuses label n why) =
+    (s buffer : List ℕ) → length s ≡ n → (tidy_answer s buffer ≡ record { verdict = refused why }) × (tidy_buffer s buffer ≡ buffer)
 Says (reads label text room verdict word) =
     (read_answer (bytes_in text) (lent room) ≡ record { verdict = verdict }) × (read_buffer (bytes_in text) (lent room) ≡ word)
 Says (refuses_text label n verdict) =
@@ -155,12 +157,12 @@ sheets =
     ∷ asks "A1" ("ab" ∷ "ac" ∷ "ad" ∷ []) "Cd" 64 Member (record_in "Bc")
     ∷ asks "A2" ("ab" ∷ "ac" ∷ "ad" ∷ []) "d" 64 NotMember (lent 64)
     ∷ asks "A3" ("cC" ∷ "aAb" ∷ []) "bcCb" 64 Member (record_in "bb")
-    ∷ asks "A4" ("ab" ∷ "b" ∷ []) "a" 64 (refused 15) (lent 64)
-    ∷ asks "A5" ("ab" ∷ "b" ∷ []) "a" 63 (refused 15) (lent 63)
-    ∷ asks "A6" ("a" ∷ "b" ∷ []) "a" 63 (refused 11) (lent 63)
-    ∷ refuses "L1" 1023 1
-    ∷ refuses "L2" 1025 2
-    ∷ refuses "L3" 1500 2
+    ∷ asks "A4" ("ab" ∷ "b" ∷ []) "a" 64 (refused SystemNotReduced) (lent 64)
+    ∷ asks "A5" ("ab" ∷ "b" ∷ []) "a" 63 (refused SystemNotReduced) (lent 63)
+    ∷ asks "A6" ("a" ∷ "b" ∷ []) "a" 63 (refused ProductBufferShort) (lent 63)
+    ∷ refuses "L1" 1023 SystemUneven
+    ∷ refuses "L2" 1025 SystemTooLong
+    ∷ refuses "L3" 1500 SystemTooLong
     ∷ prints_for "L4" 1087 "refused 1 at 0"
     ∷ prints_for "L5" 1089 "refused 2 at 0"
     ∷ reads "T1" "(ab)^-3" 64 Done (record_in "BABABA")
@@ -168,19 +170,19 @@ sheets =
     ∷ reads "T3" "" 64 Done (record_in "")
     ∷ reads "T4" "((a)^2[b,])^0b^-0c^07" 64 Done (record_in "ccccccc")
     ∷ reads "T5" "[a^63,a^63]" 64 Done (record_in "")
-    ∷ reads "T6" "[a^16,b^16]" 64 (refused 12) (lent 64)
-    ∷ reads "T7" "[a^16,b^16]^0" 64 (refused 12) (lent 64)
-    ∷ reads "T8" "A^63(a^32)^2" 64 (refused 12) (lent 64)
-    ∷ reads "T9" "a^63aA" 64 (refused 12) (lent 64)
-    ∷ reads "T10" "(a^60b^5)^0" 64 (refused 12) (lent 64)
-    ∷ reads "T11" "a^63aA" 63 (refused 10) (lent 63)
-    ∷ reads "T12" "a^64" 63 (refused_with 18 1) (lent 63)
-    ∷ reads "T13" "a^64(" 64 (refused_with 16 5) (lent 64)
-    ∷ reads "T14" "a^100" 64 (refused_with 16 4) (lent 64)
-    ∷ reads "T15" "[a]" 64 (refused_with 16 2) (lent 64)
+    ∷ reads "T6" "[a^16,b^16]" 64 (refused WordTooLong) (lent 64)
+    ∷ reads "T7" "[a^16,b^16]^0" 64 (refused WordTooLong) (lent 64)
+    ∷ reads "T8" "A^63(a^32)^2" 64 (refused WordTooLong) (lent 64)
+    ∷ reads "T9" "a^63aA" 64 (refused WordTooLong) (lent 64)
+    ∷ reads "T10" "(a^60b^5)^0" 64 (refused WordTooLong) (lent 64)
+    ∷ reads "T11" "a^63aA" 63 (refused WordsBufferShort) (lent 63)
+    ∷ reads "T12" "a^64" 63 (refused_with ExponentOutOfRange 1) (lent 63)
+    ∷ reads "T13" "a^64(" 64 (refused_with TextMalformed 5) (lent 64)
+    ∷ reads "T14" "a^100" 64 (refused_with TextMalformed 4) (lent 64)
+    ∷ reads "T15" "[a]" 64 (refused_with TextMalformed 2) (lent 64)
     ∷ reads "T16" "((((((((a))))))))" 64 Done (record_in "a")
-    ∷ reads "T17" "((([,[((((a^64)))),]])))" 64 (refused_with 17 9) (lent 64)
-    ∷ refuses_text "T18" 257 (refused 16)
+    ∷ reads "T17" "((([,[((((a^64)))),]])))" 64 (refused_with NestingTooDeep 9) (lent 64)
+    ∷ refuses_text "T18" 257 (refused TextMalformed)
     ∷ writes "W1" "aaBBBc" "a^2b^-3c"
     ∷ writes "W2" "aAa" "aAa"
     ∷ writes "W3" "" ""

@@ -4,7 +4,7 @@ use Prim.Native.Nat.{◌*◌, ◌+◌, ◌-◌, ◌/◌, ◌<◌, ◌≤◌, max
 use mathlib.Core.Bool.{Bool, ◌||◌, false, true}
 use mathlib.Core.List.{List}
 use mathlib.Core.Logic.{◌⊎◌, inl, inr}
-use mathlib.Core.Option.{none, some}
+use Rattle.std.specs.Prelude.{None, Option, Some}
 use mathlib.Core.Path.{◌∙◌, ◌≡◌, ap, ap₂, refl, sym}
 use native.Mathlib.Decide.{dec_lt, ℕ_discrete}
 use native.Mathlib.Omega.{arith}
@@ -15,7 +15,8 @@ use Rattle.words.specs.Alphabet.{bytes}
 use Rattle.words.specs.Words.{common_prefix, freely_reduce, inverse}
 use Rattle.words.proofs.Alphabet.{byte_laws}
 use Rattle.words.proofs.Cancellation.{cancellation-common_prefix, cancellation-inverse_left, cancellation-inverse_right, common_prefix_comm}
-use Rattle.systems.specs.Moves.{Form, formed, seam}
+use Rattle.systems.specs.Moves.{formed, seam}
+use Rattle.systems.specs.declared.Form.{Form}
 use Rattle.systems.specs.Products.{FreelyReduced, word}
 use Rattle.systems.specs.Rules.{first, form_at, shortening, try_changed, try_form, try_other}
 use Rattle.systems.proofs.Logic.{none_of_four}
@@ -24,9 +25,8 @@ use Rattle.systems.proofs.Shortening.{formed_shorter, other_missed, other-same, 
 use Rattle.slots.specs.Held.{Held, held, held_word, letter_pair}
 use Rattle.slots.proofs.Alike.{pairs_apart}
 use Rattle.slots.proofs.Holding.{held-length, held-size, held_word_lem}
-use Rattle.moves.specs.Found.{FoundBelow, found_move}
-use Rattle.moves.specs.declared.found.Found.{Found}
-use Rattle.moves.specs.declared.found.Found.TheVariants.{Nothing}
+use Rattle.moves.specs.Found.{FoundBelow}
+use Rattle.systems.specs.declared.Move.{Move}
 use Rattle.marks.specs.Marks.{Added, Marked, Outside, Settled}
 use Rattle.marks.specs.declared.Slots.{Slots}
 use Rattle.marks.proofs.Marking.{marked_more}
@@ -134,7 +134,7 @@ module _ (letters inverses lengths : List ℕ) (n k i : ℕ) (beside : Inverted 
 
 -- a pair of which at most half of the other word cancels in each form
 module _ (S : List (List ℕ)) (freely : FreelyReduced bytes S) (k i : ℕ) where
-  form-none : (form : Form) → 2 * seam bytes form (word bytes S i) (word bytes S k) ≤ length (word bytes S i) → try_form bytes S k i form ≡ none
+  form-none : (form : Form) → 2 * seam bytes form (word bytes S i) (word bytes S k) ≤ length (word bytes S i) → try_form bytes S k i form ≡ None
   form-none form most =
       let u : List ℕ = word bytes S i in
       let v : List ℕ = word bytes S k in
@@ -144,15 +144,15 @@ module _ (S : List (List ℕ)) (freely : FreelyReduced bytes S) (k i : ℕ) wher
       ]
 
   pair_none : ((j : ℕ) → j < 4 → 2 * seam bytes (form_at j) (word bytes S i) (word bytes S k) ≤ length (word bytes S i))
-      → try_other bytes S k i ≡ none
+      → try_other bytes S k i ≡ None
   pair_none most =
       other_missed bytes byte_laws S k i
       (first_nowhere (λ (j : ℕ). try_form bytes S k i (form_at j)) 4 (λ j l. form-none (form_at j) (most j l)))
 
-  pub blank_other : length (word bytes S i) ≡ 0 → try_other bytes S k i ≡ none
+  pub blank_other : length (word bytes S i) ≡ 0 → try_other bytes S k i ≡ None
   blank_other e = pair_none (λ j l. omega (arith, seam_le_other bytes byte_laws (form_at j) (word bytes S i) (word bytes S k)))
 
-  pub blank_changed : length (word bytes S k) ≡ 0 → try_other bytes S k i ≡ none
+  pub blank_changed : length (word bytes S k) ≡ 0 → try_other bytes S k i ≡ None
   blank_changed e = pair_none (λ j l. omega (arith, seam_le_changed bytes byte_laws (form_at j) (word bytes S i) (word bytes S k)))
 
 -- the same letters cancel in a pair the other way round
@@ -179,7 +179,7 @@ seam_back u v most told (suc (suc (suc zero))) h =
 seam_back u v most told (suc (suc (suc (suc j)))) h = absurd (omega arith)
 
 pair_back : (S : List (List ℕ)) (k i : ℕ) → FreelyReduced bytes S
-    → ((j : ℕ) → j < 4 → 2 * seam bytes (form_at j) (word bytes S i) (word bytes S k) ≤ length (word bytes S k)) → try_other bytes S i k ≡ none
+    → ((j : ℕ) → j < 4 → 2 * seam bytes (form_at j) (word bytes S i) (word bytes S k) ≤ length (word bytes S k)) → try_other bytes S i k ≡ None
 pair_back S k i freely told =
     let wi : List ℕ = word bytes S i in
     let wk : List ℕ = word bytes S k in
@@ -194,32 +194,32 @@ pub record Ready (letters lengths marks : List ℕ) (n last : ℕ) : Type 0 wher
   pub settled : Settled n (held n letters lengths) last
 
 -- nothing is found yet, and no slot before k is shortened
-pub record Changed (letters lengths marks : List ℕ) (n last k : ℕ) (found : Found) : Type 0 where
+pub record Changed (letters lengths marks : List ℕ) (n last k : ℕ) (found : Option Move) : Type 0 where
   pub ready : Ready letters lengths marks n last
-  pub nothing : found ≡ Nothing
+  pub nothing : found ≡ None
   pub k_within : k ≤ n
-  pub before_k : first (try_changed bytes (held n letters lengths)) k ≡ none
+  pub before_k : first (try_changed bytes (held n letters lengths)) k ≡ None
 
 -- nor slot k by a slot before i, or from the end of its range on
-pub record Others (letters lengths marks : List ℕ) (n last k i end : ℕ) (found : Found) : Type 0 where
+pub record Others (letters lengths marks : List ℕ) (n last k i end : ℕ) (found : Option Move) : Type 0 where
   pub changed : Changed letters lengths marks n last k found
   pub k_inside : k < n
   pub end_within : end ≤ n
-  pub before_i : (j : ℕ) → j < i → j < n → try_other bytes (held n letters lengths) k j ≡ none
-  pub from_end : (j : ℕ) → end ≤ j → j < n → try_other bytes (held n letters lengths) k j ≡ none
+  pub before_i : (j : ℕ) → j < i → j < n → try_other bytes (held n letters lengths) k j ≡ None
+  pub from_end : (j : ℕ) → end ≤ j → j < n → try_other bytes (held n letters lengths) k j ≡ None
 
 -- nor slot k by slot i in an earlier form; no count was above the most, or at most half of slot k's word was
-pub record Forms (letters lengths marks : List ℕ) (n last k i end form most : ℕ) (found : Found) : Type 0 where
+pub record Forms (letters lengths marks : List ℕ) (n last k i end form most : ℕ) (found : Option Move) : Type 0 where
   pub others : Others letters lengths marks n last k i end found
   pub i_inside : i < end
   pub apart : i ≡ k → ⊥
   pub form-within : form ≤ 4
-  pub before-form : first (λ j. try_form bytes (held n letters lengths) k i (form_at j)) form ≡ none
+  pub before-form : first (λ j. try_form bytes (held n letters lengths) k i (form_at j)) form ≡ None
   pub counts : (j : ℕ) → j < form
       → 2 * seam bytes (form_at j) (held_word letters lengths i) (held_word letters lengths k) ≤ max (2 * most) (length (held_word letters lengths k))
 
 pub changed_begin : (letters lengths marks : List ℕ) (n last : ℕ) → Held n letters lengths → last ≤ n - 1 → length marks ≡ 256
-    → Marked n (held n letters lengths) marks → Settled n (held n letters lengths) last → Changed letters lengths marks n last 0 Nothing
+    → Marked n (held n letters lengths) marks → Settled n (held n letters lengths) last → Changed letters lengths marks n last 0 None
 changed_begin letters lengths marks n last here last_within long marked settled =
     record {
       ready = record { here = here; last_within = last_within; long = long; marked = marked; settled = settled };
@@ -228,7 +228,7 @@ changed_begin letters lengths marks n last here last_within long marked settled 
       before_k = refl;
     }
 
-module _ (letters lengths marks : List ℕ) (n last k : ℕ) (found : Found) where
+module _ (letters lengths marks : List ℕ) (n last k : ℕ) (found : Option Move) where
   pub others_begin : Changed letters lengths marks n last k found → k < n → (range : Slots) → range.to ≤ n → Outside n last k range
       → Others letters lengths marks n last k range.from range.to found
   others_begin c h range inside out =
@@ -241,7 +241,7 @@ module _ (letters lengths marks : List ℕ) (n last k : ℕ) (found : Found) whe
       }
 
   -- all slots passed: nothing shortens
-  pub changed_end : Changed letters lengths marks n last k found → n ≤ k → found_move found ≡ shortening bytes (held n letters lengths)
+  pub changed_end : Changed letters lengths marks n last k found → n ≤ k → found ≡ shortening bytes (held n letters lengths)
   unfolding shortening
   changed_end c h =
       let z : k ≡ length (held n letters lengths) = omega (arith, held-length n letters lengths, c.k_within) in
@@ -270,15 +270,15 @@ module _ (letters lengths marks : List ℕ) (n last k : ℕ) (found : Found) whe
         }
 
     -- slots before i + 1
-    before-next : Others letters lengths marks n last k i end found → try_other bytes (held n letters lengths) k i ≡ none
-        → (j : ℕ) → j < i + 1 → j < n → try_other bytes (held n letters lengths) k j ≡ none
+    before-next : Others letters lengths marks n last k i end found → try_other bytes (held n letters lengths) k i ≡ None
+        → (j : ℕ) → j < i + 1 → j < n → try_other bytes (held n letters lengths) k j ≡ None
     before-next o e j l m = elim (dec_lt j i) [
       | yes a ↦ o.before_i j a m
       | no a ↦ let p : j ≡ i = omega arith in rw p e
     ]
 
     -- one more pair passed
-    others_more : Others letters lengths marks n last k i end found → try_other bytes (held n letters lengths) k i ≡ none
+    others_more : Others letters lengths marks n last k i end found → try_other bytes (held n letters lengths) k i ≡ None
         → Others letters lengths marks n last k (i + 1) end found
     others_more o e =
         record {
@@ -290,7 +290,7 @@ module _ (letters lengths marks : List ℕ) (n last k : ℕ) (found : Found) whe
         }
 
     -- slot k itself, or a pair that is marked
-    pub others_stale : (marks' : List ℕ) (found' : Found) → marks' ≡ marks → found' ≡ found → Others letters lengths marks n last k i end found
+    pub others_stale : (marks' : List ℕ) (found' : Option Move) → marks' ≡ marks → found' ≡ found → Others letters lengths marks n last k i end found
         → i < end → {fresh : Bool} → (fresh ≡ false → (i ≡ k → ⊥) → get_or marks (k * 16 + i) 0 ≡ 0 → ⊥) → fresh ≡ false
         → Others letters lengths marks' n last k (i + 1) end found'
     others_stale marks' found' p q o h stale t =
@@ -327,12 +327,12 @@ module _ (letters lengths marks : List ℕ) (n last k : ℕ) (found : Found) whe
       yours : word bytes (held n letters lengths) k ≡ held_word letters lengths k
       yours = held_word_lem n k letters lengths f.others.k_inside
 
-      pair_missed : 4 ≤ form → try_other bytes (held n letters lengths) k i ≡ none
+      pair_missed : 4 ≤ form → try_other bytes (held n letters lengths) k i ≡ None
       pair_missed h =
           let z : form ≡ 4 = omega (arith, f.form-within) in
           other_missed bytes byte_laws (held n letters lengths) k i (rw z at f.before-form)
 
-      back_missed : 4 ≤ form → 2 * most ≤ length (held_word letters lengths k) → try_other bytes (held n letters lengths) i k ≡ none
+      back_missed : 4 ≤ form → 2 * most ≤ length (held_word letters lengths k) → try_other bytes (held n letters lengths) i k ≡ None
       back_missed h half =
           pair_back (held n letters lengths) k i f.others.changed.ready.here.freely
           (λ j l. rw (mine, yours) (omega (arith, f.counts j (omega arith))))
@@ -357,7 +357,7 @@ module _ (letters lengths marks : List ℕ) (n last k : ℕ) (found : Found) whe
             | inr s ↦ rw (s.1, s.2) (back_missed h (omega (arith, leb-true (2 * most) whole (sym told ∙ s.0), sized, size_k)))
           ])
 
-      pub forms_end : (marks'' marks' : List ℕ) (found' : Found) (whole : ℕ) (both : Bool) → marks'' ≡ marks' → found' ≡ found
+      pub forms_end : (marks'' marks' : List ℕ) (found' : Option Move) (whole : ℕ) (both : Bool) → marks'' ≡ marks' → found' ≡ found
           → whole ≡ get_or lengths k 0 → Added (λ a b. ((a ≡ k) × (b ≡ i)) ⊎ ((both ≡ true) × (a ≡ i) × (b ≡ k))) marks marks' → both ≡ leb (2 * most) whole → 4 ≤ form
           → length marks' ≡ length marks → Others letters lengths marks'' n last k (i + 1) end found'
       forms_end marks'' marks' found' whole both p q sized added told h same =
@@ -383,7 +383,7 @@ module _ (letters lengths marks : List ℕ) (n last k : ℕ) (found : Found) whe
           })
 
       form_missed : 2 * seam bytes (form_at form) (held_word letters lengths i) (held_word letters lengths k) ≤ length (held_word letters lengths i)
-          → try_form bytes (held n letters lengths) k i (form_at form) ≡ none
+          → try_form bytes (held n letters lengths) k i (form_at form) ≡ None
       form_missed h = form-none (held n letters lengths) here.freely k i (form_at form) (rw (mine, yours) h)
 
       -- a form passed, whether it was counted or not
@@ -405,7 +405,7 @@ module _ (letters lengths marks : List ℕ) (n last k : ℕ) (found : Found) whe
             ];
           }
 
-      pub forms_pass : (most' : ℕ) (found' : Found) {close : Bool} → form < 4 → most' ≡ most → found' ≡ found
+      pub forms_pass : (most' : ℕ) (found' : Option Move) {close : Bool} → form < 4 → most' ≡ most → found' ≡ found
           → (close ≡ false → HalfAtMost form (held_word letters lengths i) (held_word letters lengths k)) → close ≡ false
           → Forms letters lengths marks n last k i end (form + 1) most' found'
       forms_pass most' found' h same same-found told e =
@@ -414,7 +414,7 @@ module _ (letters lengths marks : List ℕ) (n last k : ℕ) (found : Found) whe
 
       module _ (c size : ℕ) (told : c ≡ seam bytes (form_at form) (held_word letters lengths i) (held_word letters lengths k)) (sized : size ≡ get_or lengths i 0) where
         -- more than half of the other word cancels: "the freely reduced result is strictly shorter than w(k)"
-        form-found : size < 2 * c → try_form bytes (held n letters lengths) k i (form_at form) ≡ some (record { changed = k; form = form_at form; other = i })
+        form-found : size < 2 * c → try_form bytes (held n letters lengths) k i (form_at form) ≡ Some (record { changed = k; form = form_at form; other = i })
         form-found h =
             let S : List (List ℕ) = held n letters lengths in
             let freely : FreelyReduced bytes S = here.freely in
@@ -423,23 +423,23 @@ module _ (letters lengths marks : List ℕ) (n last k : ℕ) (found : Found) whe
             (rw (mine, yours) (omega (arith, told, sized, size_i))))
 
         -- a form that was counted and fails
-        pub forms_turn : (most₁ most' : ℕ) (found' : Found) → form < 4 → 2 * c ≤ size → most₁ ≡ max most c → most' ≡ most₁ → found' ≡ found
+        pub forms_turn : (most₁ most' : ℕ) (found' : Option Move) → form < 4 → 2 * c ≤ size → most₁ ≡ max most c → most' ≡ most₁ → found' ≡ found
             → Forms letters lengths marks n last k i end (form + 1) most' found'
         forms_turn most₁ most' found' h t e same same-found =
             rw same-found (forms_next most' h (omega arith) (omega (arith, told, sized, size_i)) (omega (arith, told)))
 
         -- "The first pair and form found in this order is the move made."
-        pub forms_found : form < 4 → size < 2 * c
-            → some (record { changed = k; form = form_at form; other = i }) ≡ shortening bytes (held n letters lengths)
-        forms_found h t =
+        pub forms_found : {placed : Form} → placed ≡ form_at form → form < 4 → size < 2 * c
+            → Some (record { changed = k; form = placed; other = i }) ≡ shortening bytes (held n letters lengths)
+        forms_found e h t =
             let S : List (List ℕ) = held n letters lengths in
-            sym (shortening-found bytes byte_laws S k i form (record { changed = k; form = form_at form; other = i })
+            rw e (sym (shortening-found bytes byte_laws S k i form (record { changed = k; form = form_at form; other = i })
             (omega (arith, held-length n letters lengths, f.others.k_inside)) f.others.changed.before_k
             (omega (arith, held-length n letters lengths, i_within))
-            (first_nowhere (try_other bytes S k) i (λ j l. f.others.before_i j l (omega (arith, i_within)))) f.apart h f.before-form (form-found t))
+            (first_nowhere (try_other bytes S k) i (λ j l. f.others.before_i j l (omega (arith, i_within)))) f.apart h f.before-form (form-found t)))
 
       pub pair_inside : (k < n) × (i < n)
       pair_inside = (f.others.k_inside, i_within)
 
-      pub forms_below : form < 4 → (k < n) × (i < n) × (form < 4) × (k ≡ i → ⊥)
-      forms_below h = (f.others.k_inside, i_within, h, λ e. f.apart (sym e))
+      pub forms_below : (k < n) × (i < n) × (k ≡ i → ⊥)
+      forms_below = (f.others.k_inside, i_within, λ e. f.apart (sym e))

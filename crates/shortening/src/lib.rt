@@ -6,14 +6,14 @@ ghost use Rattle.words.specs.Alphabet.{bytes};
 ghost use Rattle.systems.specs.Moves.{seam};
 ghost use Rattle.systems.specs.Rules.{form_at, shortening};
 ghost use Rattle.slots.specs.Held.{Held, Short, held, held_word};
-ghost use Rattle.moves.specs.Found.{FoundBelow, found_move};
+ghost use Rattle.moves.specs.Found.{FoundBelow};
 ghost use Rattle.marks.specs.Marks.{Marked, Settled};
 ghost use Rattle.inverses.specs.Inverses.{Inverted};
 ghost use Rattle.shortening.specs.Halves.{HalfAtMost};
 
 use marks::{is_fresh, mark, others_of};
-use moves::found::{Found, Move};
 use slots::held::{length_of, letter_pair, word_at};
+use systems::{Form, Move};
 use words::cancel::{common_prefix, least};
 
 // How many letters cancel between the two words of a form: those that a word, or its inverse, has in common with the other, or its inverse,
@@ -139,18 +139,18 @@ pub fn find_shortening(
     n: usize,
     last: usize,
     marks: &mut [u8],
-) -> Found
+) -> Option<Move>
     requires last_slot { last ≤ n - 1 }
     requires held { Held n letters.now lengths.now }
     requires inverted { Inverted n letters.now inverses.now lengths.now }
     requires table { length marks.old ≡ 256 }
     requires marked { Marked n (held n letters.now lengths.now) marks.old }
     requires settled { Settled n (held n letters.now lengths.now) last }
-    ensures found { found_move result ≡ shortening bytes (held n letters.now lengths.now) }
+    ensures found { result ≡ shortening bytes (held n letters.now lengths.now) }
     ensures below { FoundBelow n result }
     ensures marked { Marked n (held n letters.now lengths.now) marks.new }
 {
-    let mut found = Found::Nothing;
+    let mut found = None;
     let mut k = 0;
     'search: while k < n {
         let whole = length_of(lengths, k);
@@ -168,9 +168,9 @@ pub fn find_shortening(
                     if close {
                         let c = seam_of(form, letters, inverses, lengths, n, k, i);
                         if size < 2 * c {
-                            found = Found::Move(Move {
+                            found = Some(Move {
                                 changed: k,
-                                form,
+                                form: Form::at(form),
                                 other: i,
                             });
                             break 'search;

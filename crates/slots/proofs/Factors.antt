@@ -6,16 +6,16 @@ use mathlib.Core.Path.{◌∙◌, ◌≡◌, ap, refl, sym}
 use native.Mathlib.Omega.{arith}
 use lib.ListN.{length, length-map}
 use borrow.Author.Tests.{le-ltb, lt-ltb}
-use Rattle.systems.specs.Products.{Factor}
+use Rattle.systems.specs.declared.Factor.{Factor}
 use Rattle.systems.proofs.ProductLaws.{Named}
 use Rattle.records.specs.Records.{is_letter, record_of}
 use Rattle.records.specs.Refusals.{target_rules}
-use Rattle.records.specs.declared.answers.Checked.TheVariants.{Fine}
 use Rattle.records.proofs.RoundTrip.{AllLetters, record_passes, word_back}
 use Rattle.records.proofs.Rules.{letter_between}
 use Rattle.records.proofs.Targets.{target_passes}
 use Rattle.slots.specs.Factors.{factor_byte, factor_of, product_of}
 use Rattle.slots.proofs.Systems.{record-length}
+use Rattle.std.specs.Prelude.{Ok}
 
 -- the byte of a factor is a letter, and names the factor
 factor_letter : (k : ℕ) (b : Bool) → k < 26 → is_letter (factor_byte (record { slot = k; inverted = b })) ≡ true
@@ -50,6 +50,6 @@ module _ (p : List Factor) (short : length p ≤ 63) (named : Named (λ k. k < 2
   pub product_back : product_of (record_of (map factor_byte p)) ≡ p
   product_back = ap (map factor_of) (word_back (map factor_byte p) product-short (product_letters_lem p named)) ∙ factors_back p named
 
-  pub product_passes : target_rules (record_of (map factor_byte p)) ≡ Fine
+  pub product_passes : target_rules (record_of (map factor_byte p)) ≡ Ok tt
   product_passes =
       target_passes (record_of (map factor_byte p)) product-length (record_passes (map factor_byte p) product-short 0 (product_letters_lem p named))

@@ -15,12 +15,12 @@ use Rattle.systems.proofs.Equivalence.{reduced-word}
 use Rattle.systems.proofs.Runs.{reduced-within}
 use Rattle.records.specs.Records.{record_of, word_of}
 use Rattle.records.specs.Refusals.{each_below}
-use Rattle.records.specs.declared.answers.Checked.TheVariants.{Fine}
 use Rattle.records.proofs.Chains.{each_passed, each_passes}
 use Rattle.records.proofs.RoundTrip.{AllLetters, letters_reduce, record_letters, record_passes, word_back, word-short}
 use Rattle.slots.specs.Refusals.{slot_rules, system_rules}
 use Rattle.slots.specs.Systems.{bytes_of, freely_reduced_words, record_at, slots, system_of, word_at}
 use Rattle.slots.proofs.Systems.{record-length, records_passed, system_records}
+use Rattle.std.specs.Prelude.{Ok}
 
 -- every word of a system fits a record
 abbrev pub AllShort : List (List ℕ) → Type 0
@@ -48,13 +48,13 @@ pub system-short : (s : List ℕ) → AllShort (system_of s)
 system-short s = system-each (λ w. length w ≤ 63) s (omega arith) (λ k h. word-short (record_at s k))
 
 -- so are the words of a system that passes its tests
-pub system_letters : (s : List ℕ) → system_rules s ≡ Fine → LetterWords (system_of s)
+pub system_letters : (s : List ℕ) → system_rules s ≡ Ok tt → LetterWords (system_of s)
 system_letters s e =
-    let each : each_below (slot_rules s) (slots s) ≡ Fine = records_passed s e in
+    let each : each_below (slot_rules s) (slots s) ≡ (Ok tt) = records_passed s e in
     system-each AllLetters s tt (λ k h. record_letters (record_at s k) (k * 64) (each_passed (slot_rules s) (slots s) k each h))
 
 -- and so are they once freely reduced
-pub reduced_letters : (s : List ℕ) → system_rules s ≡ Fine → LetterWords (freely_reduced_words s)
+pub reduced_letters : (s : List ℕ) → system_rules s ≡ Ok tt → LetterWords (freely_reduced_words s)
 unfolding freely_reduced_words
 reduced_letters s e k = rw (reduced-word bytes byte_laws (system_of s) k) (letters_reduce (word bytes (system_of s) k) (system_letters s e k))
 
@@ -92,11 +92,11 @@ module _ (ws : List (List ℕ)) (letters : LetterWords ws) (short : AllShort ws)
       ∙ word_back (word bytes ws k) (short k) (letters k))
 
   -- and those records, no more than 16, pass the tests of a system
-  pub system_passes : length ws ≤ 16 → system_rules (bytes_of ws) ≡ Fine
+  pub system_passes : length ws ≤ 16 → system_rules (bytes_of ws) ≡ Ok tt
   system_passes few =
       let even : length (bytes_of ws) % 64 ≡ 0 = omega (arith, bytes_of-length ws short) in
       let count : length (bytes_of ws) / 64 ≡ length ws = bytes_of-slots ws short in
-      let each : each_below (slot_rules (bytes_of ws)) (length ws) ≡ Fine =
+      let each : each_below (slot_rules (bytes_of ws)) (length ws) ≡ (Ok tt) =
       each_passes (slot_rules (bytes_of ws)) (length ws)
       (λ k h. rw (bytes_of-record ws short k h) (record_passes (word bytes ws k) (short k) (k * 64) (letters k))) in
       system_records (bytes_of ws) even (rw count few) (rw count each)

@@ -20,14 +20,15 @@ use Rattle.systems.specs.Products.{FreelyReduced}
 use Rattle.systems.proofs.Equivalence.{words-freely_reduced}
 use Rattle.records.specs.Records.{before_stop, blanks, record_of, word_of}
 use Rattle.records.specs.Refusals.{each_below, must, record_rules}
-use Rattle.records.specs.declared.answers.Checked.{Checked}
-use Rattle.records.specs.declared.answers.Checked.TheVariants.{Fine}
 use Rattle.records.proofs.Chains.{fine_first, fine_next, must_fine, must_passed}
 use Rattle.records.proofs.Rules.{word_full}
 use Rattle.slots.specs.Held.{Held, Short, held, held_word}
 use Rattle.slots.specs.Refusals.{slot_rules, system_room, system_rules, word_room}
 use Rattle.slots.specs.Systems.{bytes_of, freely_reduced_words, record_at, slots, system_of, word_at}
 use Rattle.slots.proofs.Holding.{back_above, back_below, back_part, held_next, held-short}
+use Rattle.records.specs.declared.refusals.Reason.TheVariants.{SystemTooLong, SystemUneven, WordsBufferShort}
+use Rattle.std.specs.Prelude.{Ok}
+use Rattle.records.specs.Refusals.{Checked}
 
 -- the 64 bytes of a slot, as a part that is handed on
 pub slot_part : (k : ℕ) (s : List ℕ) → take (k * 64 + 64 - k * 64) (drop (k * 64) s) ≡ record_at s k
@@ -41,15 +42,15 @@ pub record_told : {x : Checked} (k : ℕ) (s : List ℕ) → x ≡ record_rules 
 record_told k s e = e ∙ ap (λ (r : List ℕ). record_rules r (k * 64)) (slot_part k s)
 
 -- refusals 1 to 5: the records are tried where there are at most 16 of them
-pub few_records : {x : Checked} (s : List ℕ) → x ≡ must (leb (length s) 1024) 2 0 → x ≡ Fine → length s / 64 ≤ 16
-few_records s e h = omega (arith, leb-true (length s) 1024 (must_passed _ 2 0 e h))
+pub few_records : {x : Checked} (s : List ℕ) → x ≡ must (leb (length s) 1024) SystemTooLong 0 → x ≡ Ok tt → length s / 64 ≤ 16
+few_records s e h = omega (arith, leb-true (length s) 1024 (must_passed _ SystemTooLong 0 e h))
 
-pub system_records : (s : List ℕ) → length s % 64 ≡ 0 → length s / 64 ≤ 16 → each_below (slot_rules s) (length s / 64) ≡ Fine → system_rules s ≡ Fine
+pub system_records : (s : List ℕ) → length s % 64 ≡ 0 → length s / 64 ≤ 16 → each_below (slot_rules s) (length s / 64) ≡ Ok tt → system_rules s ≡ Ok tt
 unfolding system_rules
 system_records s even few e = rw (le-leb (length s) 1024 (omega arith), eq-eqb _ _ even, e)
 
 -- refusal 10
-pub room_fits : (output room : ℕ) → output ≤ room → word_room output room ≡ Fine
+pub room_fits : (output room : ℕ) → output ≤ room → word_room output room ≡ Ok tt
 unfolding word_room
 room_fits output room h = rw (le-leb _ _ h)
 
@@ -153,25 +154,25 @@ module _ (source letters : List ℕ) (i n : ℕ) (here : take n letters ≡ free
       here ∙ ap (λ (k : ℕ). freely_reduce bytes (take k source)) same ∙ ap (freely_reduce bytes) (word_full source i rest sized h l)
 
 -- what a system that passes tells of its length, and of its records
-pub system-size : (s : List ℕ) → system_rules s ≡ Fine → length s ≤ 1024
+pub system-size : (s : List ℕ) → system_rules s ≡ Ok tt → length s ≤ 1024
 unfolding system_rules
-system-size s e = leb-true _ _ (must_fine _ 2 0 (fine_first (must (leb (length s) 1024) 2 0) _ e))
+system-size s e = leb-true _ _ (must_fine _ SystemTooLong 0 (fine_first (must (leb (length s) 1024) SystemTooLong 0) _ e))
 
-pub system-few : (s : List ℕ) → system_rules s ≡ Fine → length s / 64 ≤ 16
+pub system-few : (s : List ℕ) → system_rules s ≡ Ok tt → length s / 64 ≤ 16
 system-few s e = omega (arith, system-size s e)
 
-pub records_passed : (s : List ℕ) → system_rules s ≡ Fine → each_below (slot_rules s) (slots s) ≡ Fine
+pub records_passed : (s : List ℕ) → system_rules s ≡ Ok tt → each_below (slot_rules s) (slots s) ≡ Ok tt
 unfolding system_rules
-records_passed s e = fine_next (must (eqb (length s % 64) 0) 1 0) _ (fine_next (must (leb (length s) 1024) 2 0) _ e)
+records_passed s e = fine_next (must (eqb (length s % 64) 0) SystemUneven 0) _ (fine_next (must (leb (length s) 1024) SystemTooLong 0) _ e)
 
-pub room_enough : (output room : ℕ) → word_room output room ≡ Fine → output ≤ room
+pub room_enough : (output room : ℕ) → word_room output room ≡ Ok tt → output ≤ room
 unfolding word_room
-room_enough output room e = leb-true _ _ (must_fine _ 10 0 e)
+room_enough output room e = leb-true _ _ (must_fine _ WordsBufferShort 0 e)
 
 -- refusals 1 to 5, then 10
 module _ (s : List ℕ) (room : ℕ) where
-  module _ {x : Checked} (e : x ≡ system_room s room) (h : x ≡ Fine) where
-    passed : system_room s room ≡ Fine
+  module _ {x : Checked} (e : x ≡ system_room s room) (h : x ≡ Ok tt) where
+    passed : system_room s room ≡ Ok tt
     passed = sym e ∙ h
 
     pub both_size : length s ≤ 1024

@@ -1,6 +1,6 @@
 -- Products over slots as records: "A product over slots uses the same record".
 use Rattle.std.specs.Prelude.{◌+◌, ◌-◌, ℕ, cond, List, map, ltb}
-use Rattle.systems.specs.Products.{Factor}
+use Rattle.systems.specs.declared.Factor.{Factor}
 use Rattle.records.specs.Records.{word_of}
 
 -- "slot letter for the slot's word, capital for its inverse"

@@ -3,30 +3,30 @@ ghost use Rattle.std.specs.Prelude.{◌*◌, ◌≤◌, ◌≡◌, length};
 ghost use Rattle.records.specs.Refusals.{each_below};
 ghost use Rattle.slots.specs.Refusals.{slot_rules, system_room, system_rules, word_room};
 
-use records::answers::{Checked, check_that};
+use records::answers::{Refusal, check_that};
 use records::record::{RECORD, check_record};
-use records::refusals::{SYSTEM_TOO_LONG, SYSTEM_UNEVEN, WORDS_BUFFER_SHORT};
+use records::refusals::Reason;
 
 // The bytes of 16 records, the most that a system has.
 const LONGEST_SYSTEM: usize = 1024;
 
 // Refusals 2, 1 and 3 to 5.
-pub fn check_system(system: &[u8]) -> Checked
+pub fn check_system(system: &[u8]) -> Result<(), Refusal>
     ensures { result ≡ system_rules system.now }
 {
-    let short = check_that(system.len() <= LONGEST_SYSTEM, SYSTEM_TOO_LONG, 0);
-    let Checked::Fine = short else {
+    let short = check_that(system.len() <= LONGEST_SYSTEM, Reason::SystemTooLong, 0);
+    let Ok(()) = short else {
         return short;
     };
-    let even = check_that(system.len() % RECORD == 0, SYSTEM_UNEVEN, 0);
-    let Checked::Fine = even else {
+    let even = check_that(system.len() % RECORD == 0, Reason::SystemUneven, 0);
+    let Ok(()) = even else {
         return even;
     };
     check_records(system, system.len() / RECORD)
 }
 
 // Refusals 3 to 5, record by record.
-fn check_records(system: &[u8], n: usize) -> Checked
+fn check_records(system: &[u8], n: usize) -> Result<(), Refusal>
     requires inside { n * 64 ≤ length system.now }
     requires few { n ≤ 16 }
     ensures { result ≡ each_below (slot_rules system.now) n }
@@ -36,33 +36,33 @@ fn check_records(system: &[u8], n: usize) -> Checked
         let at = k * RECORD;
         let end = at + RECORD;
         let checked = check_record(&system[at..end], at);
-        let Checked::Fine = checked else {
+        let Ok(()) = checked else {
             return checked;
         };
         k += 1;
     }
-    Checked::Fine
+    Ok(())
 }
 
 // Refusal 10.
-pub fn check_room(output: usize, room: usize) -> Checked
+pub fn check_room(output: usize, room: usize) -> Result<(), Refusal>
     ensures { result ≡ word_room output room }
 {
-    check_that(output <= room, WORDS_BUFFER_SHORT, 0)
+    check_that(output <= room, Reason::WordsBufferShort, 0)
 }
 
 // Refusals 1 to 5, then 10: a system, and room for its words.
-pub fn check_system_room(system: &[u8], room: usize) -> Checked
+pub fn check_system_room(system: &[u8], room: usize) -> Result<(), Refusal>
     ensures { result ≡ system_room system.now room }
 {
     let checked = check_system(system);
-    let Checked::Fine = checked else {
+    let Ok(()) = checked else {
         return checked;
     };
     let n = system.len() / RECORD;
     let roomy = check_room(n * RECORD, room);
-    let Checked::Fine = roomy else {
+    let Ok(()) = roomy else {
         return roomy;
     };
-    Checked::Fine
+    Ok(())
 }

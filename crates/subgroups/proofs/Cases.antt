@@ -7,16 +7,16 @@ use lib.ListN.{length}
 use Rattle.input.specs.Input.{Holds, ReadInput}
 use Rattle.output.specs.Meaning.{PrintMeans}
 use Rattle.output.specs.Output.{program_output}
-use Rattle.printing.specs.declared.answers.Printed.{Printed}
-use Rattle.printing.specs.declared.answers.Printed.TheVariants.{Whole}
+use Rattle.printing.specs.Printing.{Printed}
+use Rattle.std.specs.Prelude.{Ok}
 
 module _ (kept out : List ℕ) (size : ℕ) {printed : Printed} {out' : List ℕ}
     (means : (input : List ℕ) → Holds input kept size → 1088 ≤ length kept → 66704 ≤ length out → PrintMeans input out printed out')
     (read : ReadInput kept size) (enough_kept : length kept ≡ 1088) (enough_room : length out ≡ 66704) where
-  is_whole : printed ≡ Whole (length (program_output read.input))
+  is_whole : printed ≡ Ok (length (program_output read.input))
   is_whole = (means read.input read.holds (omega arith) (omega arith)).whole
 
-  pub whole_inside : (n : ℕ) → printed ≡ Whole n → n ≤ 66704
+  pub whole_inside : (n : ℕ) → printed ≡ Ok n → n ≤ 66704
   whole_inside n e =
       let told = is_whole in
       let same : n ≡ length (program_output read.input) = cc in

@@ -7,7 +7,7 @@ mod reading;
 use crate::reading::read_input;
 use input::LONGEST;
 use output::print;
-use printing::answers::{OUTPUT, Printed};
+use printing::answers::OUTPUT;
 use std::io;
 use std::io::Write;
 
@@ -21,9 +21,8 @@ fn main(rt: HostRuntime) -> io::Result<()> {
     let size = found.size;
     let printed = print(&kept, size, &mut out);
     match printed {
-        Printed::Whole(n) => write_output(&rt, &out[0..n]),
-        Printed::Short(_) => unreachable!(),
-        Printed::Missing => unreachable!(),
+        Ok(n) => write_output(&rt, &out[0..n]),
+        Err(_) => unreachable!(),
     }
 }
 

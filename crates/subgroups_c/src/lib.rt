@@ -41,7 +41,7 @@ fn refusal_number(v: Verdict) -> u64
         Verdict::Done => 0,
         Verdict::Member => 0,
         Verdict::NotMember => 0,
-        Verdict::Refused(f) => f.number as u64,
+        Verdict::Refused(f) => u64::from(f.number()),
     }
 }
 

@@ -4,15 +4,13 @@ use Prim.Native.Nat.{◌+◌, ◌<◌, ◌≤◌, suc, ℕ}
 use mathlib.Core.Path.{◌∙◌, ◌≡◌, ap, refl, subst, sym}
 use mathlib.Core.Logic.{◌↔◌, ◌⊎◌, inl, inr}
 use mathlib.Core.Bool.{false}
-use mathlib.Core.Option.{Option, none, some}
+use Rattle.std.specs.Prelude.{None, Option, Some}
 use mathlib.Core.List.{List, [], ◌++◌, ◌∷◌, append_assoc}
 use native.Mathlib.Omega.{arith}
 use native.Mathlib.Decide.{dec_lt}
 use lib.ListN.{drop, length, take, take-append-drop}
 use lib.Seq.{take-length, take-take}
 use Rattle.records.specs.Refusals.{refusal}
-use Rattle.records.specs.declared.answers.Checked.{Checked}
-use Rattle.records.specs.declared.answers.Checked.TheVariants.{Failed, Fine}
 use Rattle.syntax.specs.Trees.{Begins, MalformedAt, WellFormed}
 use Rattle.syntax.specs.Scan.{Open, State, complete, first, round, scan, second, shape_rule, start, state, state_after, step}
 use Rattle.syntax.specs.declared.Mode.{Mode}
@@ -20,27 +18,30 @@ use Rattle.syntax.specs.declared.Mode.TheVariants.{After, Caret, Minus, OneDigit
 use Rattle.systems.proofs.Logic.{bool_cases, true_not_false}
 use Rattle.syntax.proofs.Scanning.{Accepted, Between, after-step, after_stop, complete_between, spelled-accepted, step_close}
 use Rattle.syntax.proofs.Sound.{accepted_well_formed}
+use Rattle.records.specs.declared.refusals.Reason.TheVariants.{TextMalformed}
+use Rattle.std.specs.Prelude.{Err, Ok}
+use Rattle.records.specs.Refusals.{Checked}
 
-impossible : {q : State} → ◌≡◌ {A = Option State} none (some q) → ⊥
+impossible : {q : State} → ◌≡◌ {A = Option State} None (Some q) → ⊥
 impossible e = let z : ◌≡◌ {A = ℕ} 0 1 = cc in omega arith
 
 -- the state after one text and then another
-scan_on : (u v : List ℕ) (q q' : State) → state_after q u ≡ some q' → state_after q (u ++ v) ≡ state_after q' v
+scan_on : (u v : List ℕ) (q q' : State) → state_after q u ≡ Some q' → state_after q (u ++ v) ≡ state_after q' v
 scan_on [] v q q' e = let k : q ≡ q' = cc in ap (λ (x : State). state_after x v) k
 scan_on (b ∷ u) v q q' e = go (step q.mode q.opens b) refl (scan_on u v)
   where
-    go : (o : Option State) → step q.mode q.opens b ≡ o → ((q q' : State) → state_after q u ≡ some q' → state_after q (u ++ v) ≡ state_after q' v) → state_after q (b ∷ (u ++ v)) ≡ state_after q' v
-    go none h ih = absurd (impossible (sym (after_stop q.mode q.opens b u h) ∙ e))
-    go (some p) h ih = after-step q.mode q.opens b (u ++ v) p h ∙ ih p q' (sym (after-step q.mode q.opens b u p h) ∙ e)
+    go : (o : Option State) → step q.mode q.opens b ≡ o → ((q q' : State) → state_after q u ≡ Some q' → state_after q (u ++ v) ≡ state_after q' v) → state_after q (b ∷ (u ++ v)) ≡ state_after q' v
+    go None h ih = absurd (impossible (sym (after_stop q.mode q.opens b u h) ∙ e))
+    go (Some p) h ih = after-step q.mode q.opens b (u ++ v) p h ∙ ih p q' (sym (after-step q.mode q.opens b u p h) ∙ e)
 
 -- a text that is gone through was gone through in its beginning
-scan_back : (u v : List ℕ) (q q' : State) → state_after q (u ++ v) ≡ some q' → (p : State) × (state_after q u ≡ some p)
+scan_back : (u v : List ℕ) (q q' : State) → state_after q (u ++ v) ≡ Some q' → (p : State) × (state_after q u ≡ Some p)
 scan_back [] v q q' e = (q, refl)
 scan_back (b ∷ u) v q q' e = go (step q.mode q.opens b) refl (scan_back u v)
   where
-    go : (o : Option State) → step q.mode q.opens b ≡ o → ((q q' : State) → state_after q (u ++ v) ≡ some q' → (p : State) × (state_after q u ≡ some p)) → (p : State) × (state_after q (b ∷ u) ≡ some p)
-    go none h ih = absurd (impossible (sym (after_stop q.mode q.opens b (u ++ v) h) ∙ e))
-    go (some x) h ih =
+    go : (o : Option State) → step q.mode q.opens b ≡ o → ((q q' : State) → state_after q (u ++ v) ≡ Some q' → (p : State) × (state_after q u ≡ Some p)) → (p : State) × (state_after q (b ∷ u) ≡ Some p)
+    go None h ih = absurd (impossible (sym (after_stop q.mode q.opens b (u ++ v) h) ∙ e))
+    go (Some x) h ih =
         let (p, f) = ih x q' (sym (after-step q.mode q.opens b (u ++ v) x h) ∙ e) in
         (p, after-step q.mode q.opens b u x h ∙ f)
 
@@ -79,7 +80,7 @@ pub well_formed-accepted : (r : List ℕ) → WellFormed r → Accepted start r
 well_formed-accepted r w = rw w.spells.spelling at (spelled-accepted w.tree w.spells.proper)
 
 -- the beginnings of well-formed texts are the texts that the scan goes through
-pub scan_begins : (r : List ℕ) (q : State) → state_after start r ≡ some q → Begins r
+pub scan_begins : (r : List ℕ) (q : State) → state_after start r ≡ Some q → Begins r
 scan_begins r q e =
     let (v, a) = finish q.mode q.opens in
     record {
@@ -87,7 +88,7 @@ scan_begins r q e =
       whole = accepted_well_formed (r ++ v) (record { last = a.last; reaches = scan_on r v start q e ∙ a.reaches; ends = a.ends });
     }
 
-pub begins-scan : (r : List ℕ) → Begins r → (q : State) × (state_after start r ≡ some q)
+pub begins-scan : (r : List ℕ) → Begins r → (q : State) × (state_after start r ≡ Some q)
 begins-scan r b =
     let a = well_formed-accepted (r ++ b.rest) b.whole in
     scan_back r b.rest start a.last a.reaches
@@ -104,20 +105,20 @@ begins_shorter r i j h b =
 record Stopped (q : State) (r : List ℕ) (i : ℕ) : Type 0 where
   within : i ≤ length r
   last : State
-  reaches : state_after q (take i r) ≡ some last
-  there : i < length r → state_after q (take (suc i) r) ≡ none
+  reaches : state_after q (take i r) ≡ Some last
+  there : i < length r → state_after q (take (suc i) r) ≡ None
   ends : i ≡ length r → complete last.mode last.opens ≡ false
 
-pub scan_step : (m : Mode) (s : List Open) (b : ℕ) (r : List ℕ) (k : ℕ) (p : State) → step m s b ≡ some p → scan (state m s) (b ∷ r) k ≡ scan p r (k + 1)
+pub scan_step : (m : Mode) (s : List Open) (b : ℕ) (r : List ℕ) (k : ℕ) (p : State) → step m s b ≡ Some p → scan (state m s) (b ∷ r) k ≡ scan p r (k + 1)
 scan_step m s b r k p e = rw e
 
-pub scan_stop : (m : Mode) (s : List Open) (b : ℕ) (r : List ℕ) (k : ℕ) → step m s b ≡ none → scan (state m s) (b ∷ r) k ≡ refusal 16 k
+pub scan_stop : (m : Mode) (s : List Open) (b : ℕ) (r : List ℕ) (k : ℕ) → step m s b ≡ None → scan (state m s) (b ∷ r) k ≡ refusal TextMalformed k
 scan_stop m s b r k e = rw e
 
-scan_says : (r : List ℕ) (q : State) (k : ℕ) → (Accepted q r × (scan q r k ≡ Fine)) ⊎ ((i : ℕ) × Stopped q r i × (scan q r k ≡ refusal 16 (k + i)))
+scan_says : (r : List ℕ) (q : State) (k : ℕ) → (Accepted q r × (scan q r k ≡ Ok tt)) ⊎ ((i : ℕ) × Stopped q r i × (scan q r k ≡ refusal TextMalformed (k + i)))
 scan_says [] q k = elim (bool_cases (complete q.mode q.opens)) [
   | inl h ↦ inl (record { last = q; reaches = refl; ends = h }, rw h)
-  | inr h ↦ inr (0, record { within = omega arith; last = q; reaches = refl; there = λ x. absurd (omega arith); ends = λ x. h }, rw h (ap (refusal 16) (omega arith)))
+  | inr h ↦ inr (0, record { within = omega arith; last = q; reaches = refl; there = λ x. absurd (omega arith); ends = λ x. h }, rw h (ap (refusal TextMalformed) (omega arith)))
 ]
 scan_says (b ∷ r) q k = go (step q.mode q.opens b) refl (scan_says r)
   where
@@ -128,15 +129,15 @@ scan_says (b ∷ r) q k = go (step q.mode q.opens b) refl (scan_says r)
     further i = omega arith
 
     go : (o : Option State) → step q.mode q.opens b ≡ o
-        → ((q : State) (k : ℕ) → (Accepted q r × (scan q r k ≡ Fine)) ⊎ ((i : ℕ) × Stopped q r i × (scan q r k ≡ refusal 16 (k + i))))
-        → (Accepted q (b ∷ r) × (scan q (b ∷ r) k ≡ Fine)) ⊎ ((i : ℕ) × Stopped q (b ∷ r) i × (scan q (b ∷ r) k ≡ refusal 16 (k + i)))
-    go none e ih =
+        → ((q : State) (k : ℕ) → (Accepted q r × (scan q r k ≡ Ok tt)) ⊎ ((i : ℕ) × Stopped q r i × (scan q r k ≡ refusal TextMalformed (k + i))))
+        → (Accepted q (b ∷ r) × (scan q (b ∷ r) k ≡ Ok tt)) ⊎ ((i : ℕ) × Stopped q (b ∷ r) i × (scan q (b ∷ r) k ≡ refusal TextMalformed (k + i)))
+    go None e ih =
         inr (
           0,
           record { within = omega arith; last = q; reaches = refl; there = λ x. after_stop q.mode q.opens b [] e; ends = λ x. absurd (omega arith) },
-          scan_stop q.mode q.opens b r k e ∙ ap (refusal 16) next_place,
+          scan_stop q.mode q.opens b r k e ∙ ap (refusal TextMalformed) next_place,
         )
-    go (some p) e ih = elim (ih p (k + 1)) [
+    go (Some p) e ih = elim (ih p (k + 1)) [
       | inl (a, s) ↦ inl (record { last = a.last; reaches = after-step q.mode q.opens b r p e ∙ a.reaches; ends = a.ends }, scan_step q.mode q.opens b r k p e ∙ s)
       | inr (i, t, s) ↦
           inr (
@@ -148,7 +149,7 @@ scan_says (b ∷ r) q k = go (step q.mode q.opens b) refl (scan_says r)
               there = λ x. after-step q.mode q.opens b (take (suc i) r) p e ∙ t.there (omega arith);
               ends = λ x. t.ends (omega arith);
             },
-            scan_step q.mode q.opens b r k p e ∙ s ∙ ap (refusal 16) (further i),
+            scan_step q.mode q.opens b r k p e ∙ s ∙ ap (refusal TextMalformed) (further i),
           )
     ]
 
@@ -169,7 +170,7 @@ stopped-malformed r i t =
       ];
     }
   where
-    same-state : {p q : State} → some p ≡ some q → p ≡ q
+    same-state : {p q : State} → Some p ≡ Some q → p ≡ q
     same-state e = cc
 
 malformed_once : (r : List ℕ) (i j : ℕ) → MalformedAt r i → MalformedAt r j → i ≡ j
@@ -181,18 +182,18 @@ malformed_once r i j a b = elim (dec_lt i j) [
   ]
 ]
 
-passed_or : {k : ℕ} → Fine ≡ refusal 16 k → ⊥
+passed_or : {k : ℕ} → Ok tt ≡ refusal TextMalformed k → ⊥
 passed_or e = let z : ◌≡◌ {A = ℕ} 0 1 = cc in omega arith
 
 abbrev place_of : Checked → ℕ
-place_of Fine = 0
-place_of (Failed f) = f.place
+place_of (Ok _) = 0
+place_of (Err f) = f.place
 
-same_place : {i j : ℕ} → refusal 16 i ≡ refusal 16 j → i ≡ j
+same_place : {i j : ℕ} → refusal TextMalformed i ≡ refusal TextMalformed j → i ≡ j
 same_place e = ap place_of e
 
 -- 16 is not given exactly where the text is well formed
-pub shape_passed : (text : List ℕ) → (shape_rule text ≡ Fine) ↔ WellFormed text
+pub shape_passed : (text : List ℕ) → (shape_rule text ≡ Ok tt) ↔ WellFormed text
 unfolding shape_rule
 shape_passed text = elim (scan_says text start 0) [
   | inl (a, s) ↦ (λ e. accepted_well_formed text a, λ w. s)
@@ -200,13 +201,13 @@ shape_passed text = elim (scan_says text start 0) [
 ]
 
 -- and is given at a place exactly where the card means that place
-pub shape_refused : (text : List ℕ) (k : ℕ) → (shape_rule text ≡ refusal 16 k) ↔ MalformedAt text k
+pub shape_refused : (text : List ℕ) (k : ℕ) → (shape_rule text ≡ refusal TextMalformed k) ↔ MalformedAt text k
 unfolding shape_rule
 shape_refused text k = elim (scan_says text start 0) [
   | inl (a, s) ↦ (λ e. absurd (passed_or (sym s ∙ e)), λ m. absurd (m.malformed (accepted_well_formed text a)))
   | inr (i, t, s) ↦
-      let p : scan start text 0 ≡ refusal 16 i = s ∙ ap (refusal 16) (omega arith) in (
+      let p : scan start text 0 ≡ refusal TextMalformed i = s ∙ ap (refusal TextMalformed) (omega arith) in (
         λ e. subst (MalformedAt text) (same_place (sym p ∙ e)) (stopped-malformed text i t),
-        λ m. p ∙ ap (refusal 16) (malformed_once text i k (stopped-malformed text i t) m),
+        λ m. p ∙ ap (refusal TextMalformed) (malformed_once text i k (stopped-malformed text i t) m),
       )
 ]

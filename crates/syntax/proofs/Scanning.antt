@@ -2,7 +2,7 @@
 use Prim.Native.Nat.{ℕ}
 use mathlib.Core.Path.{◌∙◌, ◌≡◌, ap, refl, sym}
 use mathlib.Core.Bool.{Bool, false, true}
-use mathlib.Core.Option.{none, some}
+use Rattle.std.specs.Prelude.{None, Some}
 use mathlib.Core.List.{List, [], ◌++◌, ◌∷◌, append_assoc, append-nil}
 use Rattle.records.specs.Records.{is_letter}
 use Rattle.syntax.specs.Trees.{Digits, Power, Product, Proper, ProperDigits, ProperPower, bracket, group, is_digit, letter, nothing, one, plain, raised, spelled, spelled_digits, spelled_minus, spelled_power, two}
@@ -19,49 +19,49 @@ Between Caret = ⊥
 Between Minus = ⊥
 Between OneDigit = Unit
 
-pub after-step : (m : Mode) (s : List Open) (b : ℕ) (r : List ℕ) (q : State) → step m s b ≡ some q → state_after (state m s) (b ∷ r) ≡ state_after q r
+pub after-step : (m : Mode) (s : List Open) (b : ℕ) (r : List ℕ) (q : State) → step m s b ≡ Some q → state_after (state m s) (b ∷ r) ≡ state_after q r
 after-step m s b r q e = rw e
 
-pub after_stop : (m : Mode) (s : List Open) (b : ℕ) (r : List ℕ) → step m s b ≡ none → state_after (state m s) (b ∷ r) ≡ none
+pub after_stop : (m : Mode) (s : List Open) (b : ℕ) (r : List ℕ) → step m s b ≡ None → state_after (state m s) (b ∷ r) ≡ None
 after_stop m s b r e = rw e
 
-pub step-letter : (m : Mode) (s : List Open) (x : ℕ) → Between m → is_letter x ≡ true → step m s x ≡ some (state After s)
+pub step-letter : (m : Mode) (s : List Open) (x : ℕ) → Between m → is_letter x ≡ true → step m s x ≡ Some (state After s)
 step-letter Ready s x h e = rw e
 step-letter After s x h e = rw (letter_no_sign x 94 e refl, e)
 step-letter Caret s x h e = absurd h
 step-letter Minus s x h e = absurd h
 step-letter OneDigit s x h e = rw (letter_no_digit x e, e)
 
-pub step-group : (m : Mode) (s : List Open) → Between m → step m s 40 ≡ some (state Ready (round ∷ s))
+pub step-group : (m : Mode) (s : List Open) → Between m → step m s 40 ≡ Some (state Ready (round ∷ s))
 step-group Ready s h = refl
 step-group After s h = refl
 step-group Caret s h = absurd h
 step-group Minus s h = absurd h
 step-group OneDigit s h = refl
 
-pub step-bracket : (m : Mode) (s : List Open) → Between m → step m s 91 ≡ some (state Ready (first ∷ s))
+pub step-bracket : (m : Mode) (s : List Open) → Between m → step m s 91 ≡ Some (state Ready (first ∷ s))
 step-bracket Ready s h = refl
 step-bracket After s h = refl
 step-bracket Caret s h = absurd h
 step-bracket Minus s h = absurd h
 step-bracket OneDigit s h = refl
 
-close_ready : (o : Open) (s : List Open) → step Ready (o ∷ s) (awaited o) ≡ some (closed o s)
+close_ready : (o : Open) (s : List Open) → step Ready (o ∷ s) (awaited o) ≡ Some (closed o s)
 close_ready round s = refl
 close_ready first s = refl
 close_ready second s = refl
 
-close_after : (o : Open) (s : List Open) → step After (o ∷ s) (awaited o) ≡ some (closed o s)
+close_after : (o : Open) (s : List Open) → step After (o ∷ s) (awaited o) ≡ Some (closed o s)
 close_after round s = refl
 close_after first s = refl
 close_after second s = refl
 
-close_digit : (o : Open) (s : List Open) → step OneDigit (o ∷ s) (awaited o) ≡ some (closed o s)
+close_digit : (o : Open) (s : List Open) → step OneDigit (o ∷ s) (awaited o) ≡ Some (closed o s)
 close_digit round s = refl
 close_digit first s = refl
 close_digit second s = refl
 
-pub step_close : (m : Mode) (o : Open) (s : List Open) → Between m → step m (o ∷ s) (awaited o) ≡ some (closed o s)
+pub step_close : (m : Mode) (o : Open) (s : List Open) → Between m → step m (o ∷ s) (awaited o) ≡ Some (closed o s)
 step_close Ready o s h = close_ready o s
 step_close After o s h = close_after o s
 step_close Caret o s h = absurd h
@@ -75,7 +75,7 @@ pub record Through (q : State) (u : List ℕ) (s : List Open) (r : List ℕ) : T
   pub same : state_after q (u ++ r) ≡ state_after (state mode s) r
 
 module _ (s : List Open) (r : List ℕ) where
-  scan_digits : (m : Mode) (d : Digits) → ProperDigits d → ((x : ℕ) → is_digit x ≡ true → step m s x ≡ some (state OneDigit s)) → Through (state m s) (spelled_digits d) s r
+  scan_digits : (m : Mode) (d : Digits) → ProperDigits d → ((x : ℕ) → is_digit x ≡ true → step m s x ≡ Some (state OneDigit s)) → Through (state m s) (spelled_digits d) s r
   scan_digits m (one d) h f = record { mode = OneDigit; between = tt; same = after-step m s d r _ (f d h) }
   scan_digits m (two d e) h f =
       record {
@@ -155,7 +155,7 @@ complete_between OneDigit h = refl
 -- the text was gone through, and may end here
 pub record Accepted (q : State) (r : List ℕ) : Type 0 where
   pub last : State
-  pub reaches : state_after q r ≡ some last
+  pub reaches : state_after q r ≡ Some last
   pub ends : complete last.mode last.opens ≡ true
 
 pub spelled-accepted : (t : Product) → Proper t → Accepted (state Ready []) (spelled t)

@@ -3,7 +3,7 @@ use Prim.Native.Nat.{ℕ}
 use mathlib.Core.Path.{◌∙◌, ◌≡◌, ap, refl, subst, sym}
 use mathlib.Core.Logic.{◌⊎◌, inl, inr}
 use mathlib.Core.Bool.{Bool, false, true}
-use mathlib.Core.Option.{Option, none, some}
+use Rattle.std.specs.Prelude.{None, Option, Some}
 use mathlib.Core.List.{List, [], ◌++◌, ◌∷◌, append_assoc}
 use native.Mathlib.Omega.{arith}
 use lib.Dec.{eqb}
@@ -175,23 +175,23 @@ from_close first s r g = record { tree = nothing; proper = tt; rest = r; tail = 
 from_close second s r g =
     record { tree = nothing; proper = tt; power = g.power; power_proper = g.proper; rest = g.rest; tail = g.tail; same = ap (◌∷◌ 93) g.same }
 
-impossible : {A : Type 0} {q : State} → ◌≡◌ {A = Option State} none (some q) → A
+impossible : {A : Type 0} {q : State} → ◌≡◌ {A = Option State} None (Some q) → A
 impossible e = let z : ◌≡◌ {A = ℕ} 0 1 = cc in absurd (omega arith)
 
-from_closing : (b : ℕ) (s : List Open) (r : List ℕ) (q : State) → closing b s ≡ some q → GoesFrom q r → Tail s (b ∷ r)
+from_closing : (b : ℕ) (s : List Open) (r : List ℕ) (q : State) → closing b s ≡ Some q → GoesFrom q r → Tail s (b ∷ r)
 from_closing b [] r q e g = impossible e
 from_closing b (o ∷ s) r q e g = elim (bool_cases (eqb b (awaited o))) [
   | inl h ↦
-      let z : some (closed o s) ≡ some q = rw h at e in
+      let z : Some (closed o s) ≡ Some q = rw h at e in
       let k : closed o s ≡ q = cc in
       rw (eqb-true b (awaited o) h) (from_close o s r (rw k g))
   | inr h ↦ impossible {q = q} (rw h at e)
 ]
 
-same-state : {p q : State} → some p ≡ some q → p ≡ q
+same-state : {p q : State} → Some p ≡ Some q → p ≡ q
 same-state e = cc
 
-from_product : (b : ℕ) (s : List Open) (r : List ℕ) (q : State) → step_product b s ≡ some q → GoesFrom q r → Tail s (b ∷ r)
+from_product : (b : ℕ) (s : List Open) (r : List ℕ) (q : State) → step_product b s ≡ Some q → GoesFrom q r → Tail s (b ∷ r)
 from_product b s r q e g = elim (bool_cases (is_letter b)) [
   | inl h ↦
       let k : state After s ≡ q = same-state (rw h at e) in
@@ -239,7 +239,7 @@ from_minus b s r h g =
     }
 
 -- one byte more
-from_step : (m : Mode) (s : List Open) (b : ℕ) (r : List ℕ) (q : State) → step m s b ≡ some q → GoesFrom q r → Goes m s (b ∷ r)
+from_step : (m : Mode) (s : List Open) (b : ℕ) (r : List ℕ) (q : State) → step m s b ≡ Some q → GoesFrom q r → Goes m s (b ∷ r)
 from_step Ready s b r q e g = from_product b s r q e g
 from_step After s b r q e g = elim (bool_cases (eqb b 94)) [
   | inl h ↦
@@ -294,8 +294,8 @@ accepted_goes [] q a =
 accepted_goes (b ∷ r) q a = go (step q.mode q.opens b) refl (accepted_goes r)
   where
     go : (o : Option State) → step q.mode q.opens b ≡ o → ((q : State) → Accepted q r → Goes q.mode q.opens r) → Goes q.mode q.opens (b ∷ r)
-    go none e ih = impossible (sym (after_stop q.mode q.opens b r e) ∙ a.reaches)
-    go (some q') e ih =
+    go None e ih = impossible (sym (after_stop q.mode q.opens b r e) ∙ a.reaches)
+    go (Some q') e ih =
         from_step q.mode q.opens b r q' e (ih q' (record { last = a.last; reaches = sym (after-step q.mode q.opens b r q' e) ∙ a.reaches; ends = a.ends }))
 
 pub accepted_well_formed : (r : List ℕ) → Accepted (state Ready []) r → WellFormed r

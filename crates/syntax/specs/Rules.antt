@@ -3,18 +3,19 @@ use Rattle.std.specs.Prelude.{◌+◌, suc, zero, ℕ, Bool, ◌&&◌, ◌||◌,
 use Rattle.words.specs.Alphabet.{bytes}
 use Rattle.words.specs.Words.{freely_reduce}
 use Rattle.records.specs.Refusals.{◌and_then◌, must, refusal}
-use Rattle.records.specs.declared.answers.Checked.{Checked}
-use Rattle.records.specs.declared.answers.Checked.TheVariants.{Fine}
 use Rattle.syntax.specs.Trees.{Power, Product, plain, raised}
 use Rattle.syntax.specs.TreeWords.{measured, number_of}
 use Rattle.syntax.specs.Scan.{shape_rule}
 use Rattle.syntax.specs.Parse.{power_of}
+use Rattle.records.specs.declared.refusals.Reason.TheVariants.{ExponentOutOfRange, NestingTooDeep, TextMalformed}
+use Rattle.std.specs.Prelude.{Ok}
+use Rattle.records.specs.Refusals.{Checked}
 
 -- 17: "The text has nesting beyond 8." So many more signs may stand open, and the next byte stands at a place.
 abbrev pub nesting_rule : ℕ → List ℕ → ℕ → Checked
-nesting_rule room [] k = Fine
+nesting_rule room [] k = Ok tt
 nesting_rule room (b ∷ r) k = elim (eqb b 40 || eqb b 91) [
-  | true ↦ elim room [ zero ↦ refusal 17 k | suc n ↦ nesting_rule n r (k + 1) ]
+  | true ↦ elim room [ zero ↦ refusal NestingTooDeep k | suc n ↦ nesting_rule n r (k + 1) ]
   | false ↦ nesting_rule (cond (eqb b 41 || eqb b 93) (suc room) room) r (k + 1)
 ]
 
@@ -25,12 +26,12 @@ power_within (raised minus d) = leb (number_of d) 63
 
 -- 18: "The text has an exponent out of range."
 abbrev pub exponent_rule : List ℕ → ℕ → Checked
-exponent_rule [] k = Fine
-exponent_rule (b ∷ r) k = must (power_within (power_of (b ∷ r))) 18 k and_then exponent_rule r (k + 1)
+exponent_rule [] k = Ok tt
+exponent_rule (b ∷ r) k = must (power_within (power_of (b ∷ r))) ExponentOutOfRange k and_then exponent_rule r (k + 1)
 
 -- 16, 17, 18
 unfoldable pub text_rules : List ℕ → Checked
-text_rules text = must (leb (length text) 256) 16 0 and_then shape_rule text and_then nesting_rule 8 text 0 and_then exponent_rule text 0
+text_rules text = must (leb (length text) 256) TextMalformed 0 and_then shape_rule text and_then nesting_rule 8 text 0 and_then exponent_rule text 0
 
 -- a word freely reduces to at most 63 letters
 abbrev pub short : List ℕ → Bool

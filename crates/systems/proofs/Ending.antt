@@ -5,7 +5,7 @@ use Prim.Native.Nat.{ℕ, zero, suc, ◌+◌, ◌*◌, ◌/◌, ◌%◌, ◌≤�
 use mathlib.Core.Path.{◌≡◌, refl, sym, ap, ◌∙◌}
 use mathlib.Core.Logic.{inl, inr}
 use mathlib.Core.Bool.{Bool, true, false, not, ◌&&◌}
-use mathlib.Core.Option.{none, some}
+use Rattle.std.specs.Prelude.{None, Some}
 use mathlib.Core.List.{List}
 use native.Mathlib.Omega.{arith}
 use native.Mathlib.Decide.{dec_lt, ℕ_discrete}
@@ -15,8 +15,10 @@ use borrow.Author.Tests.{leb-true, le-leb, eqb-true, eq-eqb, ne_eqb}
 use Rattle.words.specs.Alphabet.{Alphabet}
 use Rattle.words.specs.Words.{inverse, common_prefix}
 use Rattle.words.proofs.Alphabet.{AlphabetLaws}
-use Rattle.systems.specs.Products.{Factor, word, value, FreelyReduced}
-use Rattle.systems.specs.Moves.{Move, made}
+use Rattle.systems.specs.Products.{word, value, FreelyReduced}
+use Rattle.systems.specs.declared.Factor.{Factor}
+use Rattle.systems.specs.Moves.{made}
+use Rattle.systems.specs.declared.Move.{Move}
 use Rattle.systems.specs.Reduced.{AtMostHalf}
 use Rattle.systems.specs.Rules.{shortening, half_end, next, qualifies, run_within}
 use Rattle.systems.proofs.Logic.{bool_cases, option_cases, and_true, and_left, and_right, true_not_false}
@@ -133,16 +135,16 @@ module _ {A : Type 0} (G : Alphabet A) (L : AlphabetLaws G) where
   module _ (no_own_inverse : (x : A) → G.flip x ≡ x → ⊥) where
     -- a run comes to its end
     abbrev pub Ends : List (List A) → Type 0
-    Ends S = (n : ℕ) × (next G (run_within G n S) ≡ none)
+    Ends S = (n : ℕ) × (next G (run_within G n S) ≡ None)
 
-    ends_more : (S : List (List A)) (m : Move) → next G S ≡ some m → Ends (made G S m) → Ends S
+    ends_more : (S : List (List A)) (m : Move) → next G S ≡ Some m → Ends (made G S m) → Ends S
     ends_more S m e r = (suc r.0, rw (run_more G r.0 S m e) r.1)
 
     -- all qualifying words have at least that length
     abbrev AtLeast : ℕ → List (List A) → Type 0
     AtLeast size S = (j : ℕ) → Qualified G S j → size ≤ length (word G S j)
 
-    fewer_letters : (S : List (List A)) (m : Move) → FreelyReduced G S → shortening G S ≡ some m → letters G (made G S m) < letters G S
+    fewer_letters : (S : List (List A)) (m : Move) → FreelyReduced G S → shortening G S ≡ Some m → letters G (made G S m) < letters G S
     fewer_letters S m freely e =
         let T : List (List A) = made G S m in
         let now : ℕ → ℕ = λ j. length (word G T j) in
@@ -158,7 +160,7 @@ module _ {A : Type 0} (G : Alphabet A) (L : AlphabetLaws G) where
         omega (arith, less, ap (total past) (made-length G S m))
 
     -- what a half-end move leads to
-    module _ (S : List (List A)) (m : Move) (freely : FreelyReduced G S) (nothing : shortening G S ≡ none) (e : half_end G S ≡ some m) where
+    module _ (S : List (List A)) (m : Move) (freely : FreelyReduced G S) (nothing : shortening G S ≡ None) (e : half_end G S ≡ Some m) where
       found : HalfEndMove G S m
       found = half_end-found G L S m e
 
@@ -259,7 +261,7 @@ module _ {A : Type 0} (G : Alphabet A) (L : AlphabetLaws G) where
 
     -- a run ends if it does after a shortening, and after a half-end move
     ends_next : (S : List (List A)) → FreelyReduced G S → ((T : List (List A)) → FreelyReduced G T → letters G T < letters G S → Ends T)
-        → ((m : Move) → shortening G S ≡ none → half_end G S ≡ some m → Ends S) → Ends S
+        → ((m : Move) → shortening G S ≡ None → half_end G S ≡ Some m → Ends S) → Ends S
     ends_next S freely shorter half-end = elim (option_cases (next G S)) [
       | inl e ↦ (0, e)
       | inr r ↦ elim (next_from G S r.0 r.1) [
@@ -281,7 +283,7 @@ module _ {A : Type 0} (G : Alphabet A) (L : AlphabetLaws G) where
             where
               at_half_end : ((T : List (List A)) → FreelyReduced G T → letters G T ≤ most → AtLeast size T → qualifying G size T ≤ count
                   → ((h : ℕ) → Shortest G T (length T) h → beginnings G T h < bound) → Ends T)
-                  → (m : Move) → shortening G S ≡ none → half_end G S ≡ some m → Ends S
+                  → (m : Move) → shortening G S ≡ None → half_end G S ≡ Some m → Ends S
               at_half_end again m n e = elim (dec_lt size (length (word G S m.other))) [
                 | yes l ↦ longer S freely few (λ j q. omega (arith, l, chosen_least S m freely n e j q))
                 | no l ↦

@@ -13,8 +13,12 @@ use Rattle.words.specs.Words.{freely_reduce, inverse}
 use Rattle.words.proofs.Alphabet.{AlphabetLaws}
 use Rattle.words.proofs.FreeReduction.{freely_reduce_irreducible, freely_reduce-same, freely_reduce_twice, freely_reduce_both, freely_reduce_right}
 use Rattle.words.proofs.Inverse.{freely_reduce-inverse}
-use Rattle.systems.specs.Products.{Factor, factors, word, value, spelled, multiplied, Generated, Equivalent, FreelyReduced}
-use Rattle.systems.specs.Moves.{Form, form₁, form₂, form₃, form₄, Move, formed, made, made_all}
+use Rattle.systems.specs.Products.{factors, word, value, spelled, multiplied, Generated, Equivalent, FreelyReduced}
+use Rattle.systems.specs.declared.Factor.{Factor}
+use Rattle.systems.specs.Moves.{formed, made, made_all}
+use Rattle.systems.specs.declared.Form.{Form}
+use Rattle.systems.specs.declared.Move.{Move}
+use Rattle.systems.specs.declared.Form.TheVariants.{After, Before, InverseAfter, InverseBefore}
 use Rattle.systems.proofs.ProductLaws.{multiplied-append, multiplied-inverse, multiplied-freely_reduce, over_words_over, unblanked}
 use Rattle.systems.proofs.Undoing.{Apart, AllApart, back, made_all-length, made_all-undone, undone_all_back}
 
@@ -49,10 +53,10 @@ module _ {A B : Type 0} (H : Alphabet B) (G : Alphabet A) (L : AlphabetLaws G) (
   map-multiplied E (f ∷ p) = rw (product, ← map-value E f, ← map-multiplied E p) (freely_reduce_right G L (value G (map φ E) f) (spelled G (map φ E) p))
 
   map-formed : (form : Form) (u v : List B) → φ (formed H form u v) ≡ freely_reduce G (formed G form (φ u) (φ v))
-  map-formed form₁ u v = product u v
-  map-formed form₂ u v = rw (product, inverted)
-  map-formed form₃ u v = product v u
-  map-formed form₄ u v = rw (product, inverted)
+  map-formed Before u v = product u v
+  map-formed InverseBefore u v = rw (product, inverted)
+  map-formed After u v = product v u
+  map-formed InverseAfter u v = rw (product, inverted)
 
   map-made : (E : List (List B)) (m : Move) → map φ (made H E m) ≡ made G (map φ E) m
   map-made E m = rw (map-set, reduced, map-formed, map-word E m.other, map-word E m.changed)

@@ -12,7 +12,8 @@ use Rattle.words.specs.Alphabet.{Alphabet}
 use Rattle.words.specs.Words.{Irreducible, inverse}
 use Rattle.words.proofs.Alphabet.{AlphabetLaws}
 use Rattle.words.proofs.Inverse.{inverse_twice, inverse-length, inverse_irreducible, inverse-nil}
-use Rattle.systems.specs.Products.{Factor, factors, word, value, NotBlank}
+use Rattle.systems.specs.Products.{factors, word, value, NotBlank}
+use Rattle.systems.specs.declared.Factor.{Factor}
 use Rattle.systems.specs.Reduced.{size}
 use Rattle.systems.proofs.Logic.{and_left, and_right}
 

@@ -4,7 +4,7 @@ use Prim.Native.Nat.{ℕ, zero, suc, ◌*◌, ◌/◌, ◌%◌, ◌≤◌, ◌<�
 use mathlib.Core.Path.{◌≡◌, refl, sym, ap, ◌∙◌}
 use mathlib.Core.Logic.{◌↔◌, ◌⊎◌, inl, inr}
 use mathlib.Core.Bool.{Bool, true, false, cond}
-use mathlib.Core.Option.{none, some}
+use Rattle.std.specs.Prelude.{None, Some}
 use mathlib.Core.List.{List}
 use native.Mathlib.Omega.{arith}
 use native.Mathlib.Decide.{dec_lt, ℕ_discrete}
@@ -15,8 +15,12 @@ use Rattle.words.specs.Alphabet.{Alphabet}
 use Rattle.words.specs.Words.{inverse}
 use Rattle.words.proofs.Alphabet.{AlphabetLaws}
 use Rattle.words.proofs.Cancellation.{common_prefix_comm, cancellation-common_prefix}
-use Rattle.systems.specs.Products.{Factor, word, value, FreelyReduced}
-use Rattle.systems.specs.Moves.{Form, form₁, form₄, Move, moved_word, seam}
+use Rattle.systems.specs.Products.{word, value, FreelyReduced}
+use Rattle.systems.specs.declared.Factor.{Factor}
+use Rattle.systems.specs.Moves.{moved_word, seam}
+use Rattle.systems.specs.declared.Form.{Form}
+use Rattle.systems.specs.declared.Move.{Move}
+use Rattle.systems.specs.declared.Form.TheVariants.{Before, InverseAfter}
 use Rattle.systems.specs.Reduced.{AtMostHalf, MiddleKept}
 use Rattle.systems.specs.Rules.{first, any_below, second_half, begins, ends, qualifies, shortest_below, try_half, half_end}
 use Rattle.systems.proofs.Logic.{bool_cases, option_cases, some_not-none, true_not_false, unless_some, else_some, given_some}
@@ -36,9 +40,9 @@ module _ {A : Type 0} (G : Alphabet A) where
 
   -- "if w(k) ends with E2, make form 4 with i = h; otherwise, if w(k) begins with the inverse of E2, make form 1 with i = h"
   pub data EndTaken (S : List (List A)) (h k : ℕ) : Form → Type 0 where
-    at_end : ends G (second_half G (word G S h)) (word G S k) ≡ true → EndTaken S h k form₄
+    at_end : ends G (second_half G (word G S h)) (word G S k) ≡ true → EndTaken S h k InverseAfter
     at_beginning : ends G (second_half G (word G S h)) (word G S k) ≡ false
-        → begins G (inverse G (second_half G (word G S h))) (word G S k) ≡ true → EndTaken S h k form₁
+        → begins G (inverse G (second_half G (word G S h))) (word G S k) ≡ true → EndTaken S h k Before
 
   -- a half-end move as the rules describe it: i = h, the first k except h with one of the two ends
   pub record HalfEndMove (S : List (List A)) (m : Move) : Type 0 where
@@ -46,28 +50,28 @@ module _ {A : Type 0} (G : Alphabet A) where
     pub distinct : m.changed ≡ m.other → ⊥
     pub inside : m.changed < length S
     pub taken : EndTaken S m.other m.changed m.form
-    pub earlier : (k : ℕ) → k < m.changed → try_half G S m.other k ≡ none
+    pub earlier : (k : ℕ) → k < m.changed → try_half G S m.other k ≡ None
 
 module _ {A : Type 0} (G : Alphabet A) (L : AlphabetLaws G) where
   module _ (S : List (List A)) where
     pub shortest_skip : (n : ℕ) → qualifies G S n ≡ false → shortest_below G S (suc n) ≡ shortest_below G S n
     shortest_skip n e = rw e
 
-    pub shortest_start : (n : ℕ) → qualifies G S n ≡ true → shortest_below G S n ≡ none → shortest_below G S (suc n) ≡ some n
+    pub shortest_start : (n : ℕ) → qualifies G S n ≡ true → shortest_below G S n ≡ None → shortest_below G S (suc n) ≡ Some n
     shortest_start n e d = rw (e, d)
 
-    pub shortest_better : (n h : ℕ) → qualifies G S n ≡ true → shortest_below G S n ≡ some h
-        → length (word G S n) < length (word G S h) → shortest_below G S (suc n) ≡ some n
+    pub shortest_better : (n h : ℕ) → qualifies G S n ≡ true → shortest_below G S n ≡ Some h
+        → length (word G S n) < length (word G S h) → shortest_below G S (suc n) ≡ Some n
     shortest_better n h e d l = rw (e, d, lt-ltb (length (word G S n)) (length (word G S h)) l)
 
-    pub shortest_keep : (n h : ℕ) → qualifies G S n ≡ true → shortest_below G S n ≡ some h
-        → length (word G S h) ≤ length (word G S n) → shortest_below G S (suc n) ≡ some h
+    pub shortest_keep : (n h : ℕ) → qualifies G S n ≡ true → shortest_below G S n ≡ Some h
+        → length (word G S h) ≤ length (word G S n) → shortest_below G S (suc n) ≡ Some h
     shortest_keep n h e d l = rw (e, d, le-ltb (length (word G S n)) (length (word G S h)) l)
 
     -- what the search up to n comes to: no word qualifies, or the shortest
     abbrev Sought : ℕ → Type 0
-    Sought n = ((shortest_below G S n ≡ none) × ((k : ℕ) → k < n → qualifies G S k ≡ false))
-        ⊎ ((h : ℕ) × (shortest_below G S n ≡ some h) × Shortest G S n h)
+    Sought n = ((shortest_below G S n ≡ None) × ((k : ℕ) → k < n → qualifies G S k ≡ false))
+        ⊎ ((h : ℕ) × (shortest_below G S n ≡ Some h) × Shortest G S n h)
 
     -- slot n does not qualify
     sought_skip : (n : ℕ) → qualifies G S n ≡ false → Sought n → Sought (suc n)
@@ -93,7 +97,7 @@ module _ {A : Type 0} (G : Alphabet A) (L : AlphabetLaws G) where
     )
 
     -- slot n qualifies and none before it does, or all before it are longer
-    sought_new : (n : ℕ) → shortest_below G S (suc n) ≡ some n → qualifies G S n ≡ true
+    sought_new : (n : ℕ) → shortest_below G S (suc n) ≡ Some n → qualifies G S n ≡ true
         → ((k : ℕ) → k < n → qualifies G S k ≡ true → length (word G S n) < length (word G S k)) → Sought (suc n)
     sought_new n e t less = inr (
       n,
@@ -136,7 +140,7 @@ module _ {A : Type 0} (G : Alphabet A) (L : AlphabetLaws G) where
     ]
 
     -- nothing is chosen exactly where no word qualifies
-    pub shortest_none : (n : ℕ) → (shortest_below G S n ≡ none) ↔ ((k : ℕ) → k < n → qualifies G S k ≡ false)
+    pub shortest_none : (n : ℕ) → (shortest_below G S n ≡ None) ↔ ((k : ℕ) → k < n → qualifies G S k ≡ false)
     shortest_none n = elim (sought n) [
       | inl d ↦ (λ e. d.1, λ f. d.0)
       | inr r ↦ (
@@ -146,70 +150,70 @@ module _ {A : Type 0} (G : Alphabet A) (L : AlphabetLaws G) where
     ]
 
     -- what is chosen is the shortest, in the lowest slot
-    pub shortest_some : (n h : ℕ) → shortest_below G S n ≡ some h → Shortest G S n h
+    pub shortest_some : (n h : ℕ) → shortest_below G S n ≡ Some h → Shortest G S n h
     shortest_some n h e = elim (sought n) [
       | inl d ↦ absurd (some_not-none (shortest_below G S n) h e d.0)
       | inr r ↦ let p : r.0 ≡ h = cc r.1 in rw p at r.2
     ]
 
-    pub half-same : (h k : ℕ) → k ≡ h → try_half G S h k ≡ none
+    pub half-same : (h k : ℕ) → k ≡ h → try_half G S h k ≡ None
     half-same h k e = rw (eq-eqb k h e)
 
     pub half_at_end : (h k : ℕ) → (k ≡ h → ⊥) → ends G (second_half G (word G S h)) (word G S k) ≡ true
-        → try_half G S h k ≡ some (record { changed = k; form = form₄; other = h })
+        → try_half G S h k ≡ Some (record { changed = k; form = InverseAfter; other = h })
     half_at_end h k n e = rw (ne_eqb k h n, e)
 
     pub half_at_beginning : (h k : ℕ) → (k ≡ h → ⊥) → ends G (second_half G (word G S h)) (word G S k) ≡ false
         → begins G (inverse G (second_half G (word G S h))) (word G S k) ≡ true
-        → try_half G S h k ≡ some (record { changed = k; form = form₁; other = h })
+        → try_half G S h k ≡ Some (record { changed = k; form = Before; other = h })
     half_at_beginning h k n e d = rw (ne_eqb k h n, e, d)
 
     pub half_neither : (h k : ℕ) → ends G (second_half G (word G S h)) (word G S k) ≡ false
-        → begins G (inverse G (second_half G (word G S h))) (word G S k) ≡ false → try_half G S h k ≡ none
+        → begins G (inverse G (second_half G (word G S h))) (word G S k) ≡ false → try_half G S h k ≡ None
     half_neither h k e d = elim (ℕ_discrete k h) [
       | yes q ↦ half-same h k q
       | no n ↦ rw (ne_eqb k h n, e, d)
     ]
 
-    pub half_some : (h k : ℕ) (m : Move) → try_half G S h k ≡ some m
+    pub half_some : (h k : ℕ) (m : Move) → try_half G S h k ≡ Some m
         → (k ≡ h → ⊥) × (form : Form) × (m ≡ record { changed = k; form = form; other = h }) × EndTaken G S h k form
     half_some h k m e =
         let E₂ : List A = second_half G (word G S h) in
         let back : Bool = ends G E₂ (word G S k) in
         let front : Bool = begins G (inverse G E₂) (word G S k) in
-        let four : Move = record { changed = k; form = form₄; other = h } in
-        let one : Move = record { changed = k; form = form₁; other = h } in
-        let apart = unless_some (eqb k h) (cond back (some four) (cond front (some one) none)) m e in
+        let four : Move = record { changed = k; form = InverseAfter; other = h } in
+        let one : Move = record { changed = k; form = Before; other = h } in
+        let apart = unless_some (eqb k h) (cond back (Some four) (cond front (Some one) None)) m e in
         let differ : k ≡ h → ⊥ = eqb-false k h apart.0 in
-        elim (else_some back four (cond front (some one) none) m apart.1) [
-          | inl t ↦ (differ, form₄, t.1, at_end t.0)
-          | inr r ↦ let t = given_some front one m r.1 in (differ, form₁, t.1, at_beginning r.0 t.0)
+        elim (else_some back four (cond front (Some one) None) m apart.1) [
+          | inl t ↦ (differ, InverseAfter, t.1, at_end t.0)
+          | inr r ↦ let t = given_some front one m r.1 in (differ, Before, t.1, at_beginning r.0 t.0)
         ]
 
-    pub half_end_unchosen : shortest_below G S (length S) ≡ none → half_end G S ≡ none
+    pub half_end_unchosen : shortest_below G S (length S) ≡ None → half_end G S ≡ None
     unfolding half_end
     half_end_unchosen e = rw (e, half_end)
 
-    pub half_end_chosen : (h : ℕ) → shortest_below G S (length S) ≡ some h → half_end G S ≡ first (try_half G S h) (length S)
+    pub half_end_chosen : (h : ℕ) → shortest_below G S (length S) ≡ Some h → half_end G S ≡ first (try_half G S h) (length S)
     unfolding half_end
     half_end_chosen h e = rw (e, half_end)
 
     -- "Make only the first such move"
-    pub half_end-first : (h k : ℕ) (m : Move) → shortest_below G S (length S) ≡ some h → k < length S → first (try_half G S h) k ≡ none
-        → try_half G S h k ≡ some m → half_end G S ≡ some m
+    pub half_end-first : (h k : ℕ) (m : Move) → shortest_below G S (length S) ≡ Some h → k < length S → first (try_half G S h) k ≡ None
+        → try_half G S h k ≡ Some m → half_end G S ≡ Some m
     half_end-first h k m e l d f = half_end_chosen h e ∙ first_found (try_half G S h) k (length S) m l d f
 
     half_exists : (h k : ℕ) → (k ≡ h → ⊥)
         → (ends G (second_half G (word G S h)) (word G S k) ≡ true) ⊎ (begins G (inverse G (second_half G (word G S h))) (word G S k) ≡ true)
-        → (m : Move) × (try_half G S h k ≡ some m)
-    half_exists h k n (inl e) = (record { changed = k; form = form₄; other = h }, half_at_end h k n e)
+        → (m : Move) × (try_half G S h k ≡ Some m)
+    half_exists h k n (inl e) = (record { changed = k; form = InverseAfter; other = h }, half_at_end h k n e)
     half_exists h k n (inr d) = elim (bool_cases (ends G (second_half G (word G S h)) (word G S k))) [
-      | inl e ↦ (record { changed = k; form = form₄; other = h }, half_at_end h k n e)
-      | inr e ↦ (record { changed = k; form = form₁; other = h }, half_at_beginning h k n e d)
+      | inl e ↦ (record { changed = k; form = InverseAfter; other = h }, half_at_end h k n e)
+      | inr e ↦ (record { changed = k; form = Before; other = h }, half_at_beginning h k n e d)
     ]
 
     -- where a word qualifies there is a k to move
-    pub half_end_exists : (h : ℕ) → shortest_below G S (length S) ≡ some h → (m : Move) × (half_end G S ≡ some m)
+    pub half_end_exists : (h : ℕ) → shortest_below G S (length S) ≡ Some h → (m : Move) × (half_end G S ≡ Some m)
     half_end_exists h e =
         let q : Qualified G S h = qualifies_qualified G L S h (shortest_some (length S) h e).chosen in
         let w : List A = word G S h in
@@ -227,23 +231,23 @@ module _ {A : Type 0} (G : Alphabet A) (L : AlphabetLaws G) where
         ends_or_begins k false t = inr t
 
     -- so there is no half-end move exactly where no word qualifies
-    pub half_end_unqualified : (half_end G S ≡ none) ↔ (any_below (qualifies G S) (length S) ≡ false)
+    pub half_end_unqualified : (half_end G S ≡ None) ↔ (any_below (qualifies G S) (length S) ≡ false)
     half_end_unqualified = (to, λ e. half_end_unchosen ((shortest_none (length S)).1 (any_each (qualifies G S) (length S) e)))
       where
-        to : half_end G S ≡ none → any_below (qualifies G S) (length S) ≡ false
+        to : half_end G S ≡ None → any_below (qualifies G S) (length S) ≡ false
         to e = any_nowhere (qualifies G S) (length S) (elim (option_cases (shortest_below G S (length S))) [
           | inl d ↦ (shortest_none (length S)).0 d
           | inr r ↦ let f = half_end_exists r.0 r.1 in absurd (some_not-none (half_end G S) f.0 f.1 e)
         ])
 
     -- a found half-end move is the one that the rules describe
-    pub half_end-found : (m : Move) → half_end G S ≡ some m → HalfEndMove G S m
+    pub half_end-found : (m : Move) → half_end G S ≡ Some m → HalfEndMove G S m
     half_end-found m e = elim (option_cases (shortest_below G S (length S))) [
       | inl d ↦ absurd (some_not-none (half_end G S) m e (half_end_unchosen d))
       | inr r ↦ found r.0 r.1
     ]
       where
-        found : (h : ℕ) → shortest_below G S (length S) ≡ some h → HalfEndMove G S m
+        found : (h : ℕ) → shortest_below G S (length S) ≡ Some h → HalfEndMove G S m
         found h d =
             let at_k = first_some (try_half G S h) (length S) m (sym (half_end_chosen h d) ∙ e) in
             let parts = half_some h at_k.0 m at_k.2 in
@@ -270,7 +274,7 @@ module _ {A : Type 0} (G : Alphabet A) (L : AlphabetLaws G) where
         omega (arith, taken-seam m.other m.changed q.even f.taken, q.even)
 
     -- a half-end move is allowed
-    pub half_end-allowed : (m : Move) → half_end G S ≡ some m → Allowed G S m
+    pub half_end-allowed : (m : Move) → half_end G S ≡ Some m → Allowed G S m
     half_end-allowed m e =
         let f : HalfEndMove G S m = half_end-found m e in
         let q : Qualified G S m.other = qualifies_qualified G L S m.other f.shortest.chosen in
@@ -286,7 +290,7 @@ module _ {A : Type 0} (G : Alphabet A) (L : AlphabetLaws G) where
 
     module _ (no_own_inverse : (x : A) → G.flip x ≡ x → ⊥) (freely : FreelyReduced G S) where
       -- where nothing shortens, there is no half-end move exactly where the second condition of a reduced system holds
-      pub half_end-none : AtMostHalf G S → (half_end G S ≡ none) ↔ MiddleKept G S
+      pub half_end-none : AtMostHalf G S → (half_end G S ≡ None) ↔ MiddleKept G S
       half_end-none half = (
         λ e. (none-qualifies G L S no_own_inverse freely half).0 (half_end_unqualified.0 e),
         λ middle. half_end_unqualified.1 ((none-qualifies G L S no_own_inverse freely half).1 middle),
@@ -294,14 +298,14 @@ module _ {A : Type 0} (G : Alphabet A) (L : AlphabetLaws G) where
 
     module _ (freely : FreelyReduced G S) where
       -- a half-end move does not lengthen the changed word
-      pub half_end_no_longer : (m : Move) → half_end G S ≡ some m → length (moved_word G S m) ≤ length (word G S m.changed)
+      pub half_end_no_longer : (m : Move) → half_end G S ≡ Some m → length (moved_word G S m) ≤ length (word G S m.changed)
       half_end_no_longer m e =
           let w : List A = word G S m.other in
           let v : List A = word G S m.changed in
           omega (arith, formed-length G L m.form w v (freely m.other) (freely m.changed), half_end-half m (half_end-found m e))
 
       -- and where nothing shortens, exactly half of the shortest qualifying word cancels: the changed word keeps its length
-      pub half_end-same-length : AtMostHalf G S → (m : Move) → half_end G S ≡ some m
+      pub half_end-same-length : AtMostHalf G S → (m : Move) → half_end G S ≡ Some m
           → length (moved_word G S m) ≡ length (word G S m.changed)
       half_end-same-length half m e =
           let a : Allowed G S m = half_end-allowed m e in

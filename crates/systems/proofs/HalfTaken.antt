@@ -14,8 +14,12 @@ use Rattle.words.specs.Words.{freely_reduce, inverse, signed, Irreducible, commo
 use Rattle.words.proofs.Alphabet.{AlphabetLaws}
 use Rattle.words.proofs.Inverse.{inverse-append, inverse_twice, inverse-length, inverse_split, freely_reduce-inverse}
 use Rattle.words.proofs.Cancellation.{common_prefix_comm, common_prefix-append, common_prefix_trans, common_prefix_le_right, cancellation-common_prefix, cancellation_self, freely_reduce-cancellation}
-use Rattle.systems.specs.Products.{Factor, factors, word, value, FreelyReduced}
-use Rattle.systems.specs.Moves.{Form, form₁, form₄, Move, made}
+use Rattle.systems.specs.Products.{factors, word, value, FreelyReduced}
+use Rattle.systems.specs.declared.Factor.{Factor}
+use Rattle.systems.specs.Moves.{made}
+use Rattle.systems.specs.declared.Form.{Form}
+use Rattle.systems.specs.declared.Move.{Move}
+use Rattle.systems.specs.declared.Form.TheVariants.{Before, InverseAfter}
 use Rattle.systems.specs.Reduced.{AtMostHalf}
 use Rattle.systems.proofs.Factors.{factor_same, value-flip, value-length, value_irreducible, word_nonempty}
 use Rattle.systems.proofs.Undoing.{made-changed, made_others}
@@ -102,7 +106,7 @@ module _ {A : Type 0} (G : Alphabet A) (L : AlphabetLaws G) where
     pub taken_made : (h k : ℕ) {form : Form} → k < length S → (k ≡ h → ⊥) → 0 < length (word G S h) → length (word G S h) % 2 ≡ 0
         → EndTaken G S h k form → (y : Factor) × Taken G S (made G S (record { changed = k; form = form; other = h })) h k y
     taken_made h k inside apart filled even (at_end t) =
-        let m : Move = record { changed = k; form = form₄; other = h } in
+        let m : Move = record { changed = k; form = InverseAfter; other = h } in
         let w : List A = word G S h in
         let v : List A = word G S k in
         let product : inverse G (word G (made G S m) k) ≡ freely_reduce G (w ++ inverse G v) =
@@ -111,7 +115,7 @@ module _ {A : Type 0} (G : Alphabet A) (L : AlphabetLaws G) where
         let y : Factor = record { slot = k; inverted = true } in
         (y, taken_by h k (made G S m) y refl apart filled even ((begins_back_half G L w (inverse G v) even).0 t) product (made-rest m))
     taken_made h k inside apart filled even (at_beginning d t) =
-        let m : Move = record { changed = k; form = form₁; other = h } in
+        let m : Move = record { changed = k; form = Before; other = h } in
         let y : Factor = record { slot = k; inverted = false } in (
           y,
           taken_by h k (made G S m) y refl apart filled even ((begins_back_half G L (word G S h) (word G S k) even).0 t)

@@ -13,8 +13,12 @@ use Rattle.words.specs.Alphabet.{Alphabet}
 use Rattle.words.specs.Words.{freely_reduce, Irreducible, inverse}
 use Rattle.words.proofs.Alphabet.{AlphabetLaws}
 use Rattle.words.proofs.Inverse.{inverse_singleton}
-use Rattle.systems.specs.Products.{Factor, factors, word, value, spelled, Independent, FreelyReduced}
-use Rattle.systems.specs.Moves.{Form, form₁, form₂, form₃, form₄, Move, formed, moved_word, made, made_all}
+use Rattle.systems.specs.Products.{factors, word, value, spelled, Independent, FreelyReduced}
+use Rattle.systems.specs.declared.Factor.{Factor}
+use Rattle.systems.specs.Moves.{formed, moved_word, made, made_all}
+use Rattle.systems.specs.declared.Form.{Form}
+use Rattle.systems.specs.declared.Move.{Move}
+use Rattle.systems.specs.declared.Form.TheVariants.{After, Before, InverseAfter, InverseBefore}
 use Rattle.systems.specs.Rank.{none_blank}
 use Rattle.systems.proofs.Factors.{factor_laws}
 use Rattle.systems.proofs.ProductLaws.{Named, named-append, named-inverse, named-freely_reduce, named-over, over-named, multiplied_trivial}
@@ -31,10 +35,10 @@ slot_letters_hold Q n k h e = elim (dec_lt k n) [
 
 module _ (P : ℕ → Type 0) where
   named-formed : (form : Form) (p q : List Factor) → Named P p → Named P q → Named P (formed factors form p q)
-  named-formed form₁ p q h k = named-append P p q h k
-  named-formed form₂ p q h k = named-append P (inverse factors p) q (named-inverse P p h) k
-  named-formed form₃ p q h k = named-append P q p k h
-  named-formed form₄ p q h k = named-append P q (inverse factors p) k (named-inverse P p h)
+  named-formed Before p q h k = named-append P p q h k
+  named-formed InverseBefore p q h k = named-append P (inverse factors p) q (named-inverse P p h) k
+  named-formed After p q h k = named-append P q p k h
+  named-formed InverseAfter p q h k = named-append P q (inverse factors p) k (named-inverse P p h)
 
   -- the products in the slots name only slots of which P holds
   abbrev SlotsNamed : List (List Factor) → Type 0

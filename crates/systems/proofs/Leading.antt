@@ -4,7 +4,8 @@ use Prim.Native.Nat.{ℕ, ◌+◌, ◌*◌, ◌%◌, ◌≤◌, ◌<◌}
 use mathlib.Core.Path.{◌≡◌, sym, ap, ◌∙◌}
 use mathlib.Core.Logic.{◌⊎◌, inl, inr}
 use mathlib.Core.Bool.{Bool, true, false, cond, not, ◌&&◌, or-true, true≢false}
-use mathlib.Core.Option.{Option, none, some, some-ne-none}
+use Rattle.std.specs.Prelude.{None, Option, Some}
+use Rattle.std.proofs.lemmas.Option.{none-some}
 use mathlib.Core.List.{List, [], ◌∷◌, ◌++◌, append-nil}
 use native.Mathlib.Omega.{arith}
 use native.Mathlib.Decide.{dec_lt}
@@ -17,7 +18,8 @@ use Rattle.words.proofs.Alphabet.{AlphabetLaws, same?, same_no, differ, flip_inj
 use Rattle.words.proofs.FreeReduction.{irreducible_next, freely_reduce-same}
 use Rattle.words.proofs.Inverse.{inverse-length, inverse_irreducible}
 use Rattle.words.proofs.Cancellation.{cancellation_le_left, cancellation_inverses, common_prefix_le_left, common_prefix_comm, common_prefix_self, cancellation-inverse_left, cancellation-inverse_right, length-cancellation}
-use Rattle.systems.specs.Products.{Factor, factors, value, multiplied, FreelyReducedOver, FreelyReduced, NotBlank}
+use Rattle.systems.specs.Products.{factors, value, multiplied, FreelyReducedOver, FreelyReduced, NotBlank}
+use Rattle.systems.specs.declared.Factor.{Factor}
 use Rattle.systems.specs.Reduced.{cancellation_of, size, Reduced}
 use Rattle.systems.specs.Rules.{first, begins, ends, first_half, second_half}
 use Rattle.systems.specs.Factoring.{either_of, big_end, ends_other, half_start, leading}
@@ -29,18 +31,18 @@ use Rattle.systems.proofs.ProductLemma.{not_turn, cancellation-half, product-can
 use Rattle.systems.proofs.Halves.{begins-half, begins_back_half}
 
 -- of two factors tried in turn, the one found passed its test
-either_found : (a b : Bool) (f g x : Factor) → cond a (some f) (cond b (some g) none) ≡ some x → ((a ≡ true) × (x ≡ f)) ⊎ ((b ≡ true) × (x ≡ g))
-either_found a b f g x e = elim (else_some a f (cond b (some g) none) x e) [
+either_found : (a b : Bool) (f g x : Factor) → cond a (Some f) (cond b (Some g) None) ≡ Some x → ((a ≡ true) × (x ≡ f)) ⊎ ((b ≡ true) × (x ≡ g))
+either_found a b f g x e = elim (else_some a f (cond b (Some g) None) x e) [
   | inl r ↦ inl r
   | inr r ↦ inr (given_some b g x r.1)
 ]
 
-either_missed : (a b : Bool) (f g : Factor) → ◌≡◌ {A = Option Factor} (cond a (some f) (cond b (some g) none)) none → (a ≡ false) × (b ≡ false)
-either_missed a b f g e = let (p, r) = else_none a f (cond b (some g) none) e in (p, given-none b g r)
+either_missed : (a b : Bool) (f g : Factor) → ◌≡◌ {A = Option Factor} (cond a (Some f) (cond b (Some g) None)) None → (a ≡ false) × (b ≡ false)
+either_missed a b f g e = let (p, r) = else_none a f (cond b (Some g) None) e in (p, given-none b g r)
 
 module _ {A : Type 0} (G : Alphabet A) (test : Factor → Bool) where
   -- a factor found is one of the system's and passes the test
-  search_found : (n : ℕ) (x : Factor) → first (either_of G test) n ≡ some x → (test x ≡ true) × (x.slot < n)
+  search_found : (n : ℕ) (x : Factor) → first (either_of G test) n ≡ Some x → (test x ≡ true) × (x.slot < n)
   search_found n x e =
       let (k, h, d, before) = first_some (either_of G test) n x e in
       elim (either_found (test (record { slot = k; inverted = false })) (test (record { slot = k; inverted = true })) _ _ x d) [
@@ -49,7 +51,7 @@ module _ {A : Type 0} (G : Alphabet A) (test : Factor → Bool) where
       ]
 
   -- where none is found, none passes
-  search_missed : (n : ℕ) (x : Factor) → first (either_of G test) n ≡ none → x.slot < n → test x ≡ false
+  search_missed : (n : ℕ) (x : Factor) → first (either_of G test) n ≡ None → x.slot < n → test x ≡ false
   search_missed n x e h = go x.inverted
     where
       both : (test (record { slot = x.slot; inverted = false }) ≡ false) × (test (record { slot = x.slot; inverted = true }) ≡ false)
@@ -135,7 +137,7 @@ module _ {A : Type 0} (G : Alphabet A) (L : AlphabetLaws G) where
         (other_at x s.other s.differs ((begins_back_half G L (value G S x) (inverse G (value G S s.other)) s.even).1 (omega arith))))
 
     -- what leads a word is a big end or a half start
-    pub leading_some : (w : List A) (x : Factor) → leading G S w ≡ some x
+    pub leading_some : (w : List A) (x : Factor) → leading G S w ≡ Some x
         → (x.slot < length S) × ((big_end G S w x ≡ true) ⊎ (half_start G S w x ≡ true))
     unfolding leading
     leading_some w x e = elim (option_cases (first (either_of G (big_end G S w)) (length S))) [
@@ -143,23 +145,23 @@ module _ {A : Type 0} (G : Alphabet A) (L : AlphabetLaws G) where
       | inr r ↦ let (t, h) = search_found G (big_end G S w) (length S) x (r.1 ∙ rw (r.1, leading) at e) in (h, inl t)
     ]
 
-    leading-none : (w : List A) (x : Factor) → leading G S w ≡ none → x.slot < length S
+    leading-none : (w : List A) (x : Factor) → leading G S w ≡ None → x.slot < length S
         → (big_end G S w x ≡ false) × (half_start G S w x ≡ false)
     unfolding leading
     leading-none w x e h = elim (option_cases (first (either_of G (big_end G S w)) (length S))) [
       | inl q ↦ (search_missed G (big_end G S w) (length S) x q h, search_missed G (half_start G S w) (length S) x (rw (q, leading) at e) h)
-      | inr r ↦ absurd (some-ne-none r.0 (rw (r.1, leading) at e))
+      | inr r ↦ absurd (none-some r.0 (sym (rw (r.1, leading) at e)))
     ]
 
     -- at least half of what leads a word begins it
-    pub leading-half : (w : List A) (x : Factor) → leading G S w ≡ some x → size G S x ≤ 2 * common_prefix G (value G S x) w
+    pub leading-half : (w : List A) (x : Factor) → leading G S w ≡ Some x → size G S x ≤ 2 * common_prefix G (value G S x) w
     leading-half w x e = elim (leading_some w x e).1 [
       | inl p ↦ omega (arith, ltb-true (size G S x) (2 * common_prefix G (value G S x) w) p)
       | inr p ↦ (half-start w x p).starts
     ]
 
     -- so that the word does not get longer when it is taken off
-    pub leading_length : (w : List A) (x : Factor) → FreelyReduced G S → Irreducible G w → leading G S w ≡ some x
+    pub leading_length : (w : List A) (x : Factor) → FreelyReduced G S → Irreducible G w → leading G S w ≡ Some x
         → length (freely_reduce G (inverse G (value G S x) ++ w)) ≤ length w
     leading_length w x freely h e =
         let i : Irreducible G (inverse G (value G S x)) = inverse_irreducible G L (value G S x) (value_irreducible G L S x (freely x.slot)) in
@@ -240,7 +242,7 @@ module _ {A : Type 0} (G : Alphabet A) (L : AlphabetLaws G) where
           ]
 
       -- what leads a product is its first factor
-      pub leading-first : (f : Factor) (p : List Factor) → FreelyReducedOver G S (f ∷ p) → leading G S (multiplied G S (f ∷ p)) ≡ some f
+      pub leading-first : (f : Factor) (p : List Factor) → FreelyReducedOver G S (f ∷ p) → leading G S (multiplied G S (f ∷ p)) ≡ Some f
       leading-first f p r = elim (option_cases (leading G S (multiplied G S (f ∷ p)))) [
         | inl q ↦
             let (b, h) = leading-none (multiplied G S (f ∷ p)) f q (word-slot G L S f.slot r.0.0) in
@@ -248,7 +250,7 @@ module _ {A : Type 0} (G : Alphabet A) (L : AlphabetLaws G) where
               | inl t ↦ true≢false (sym t ∙ b)
               | inr t ↦ true≢false (sym t ∙ h)
             ])
-        | inr s ↦ s.1 ∙ ap some (elim (leading_some (multiplied G S (f ∷ p)) s.0 s.1).1 [
+        | inr s ↦ s.1 ∙ ap Some (elim (leading_some (multiplied G S (f ∷ p)) s.0 s.1).1 [
           | inl t ↦ big_first f p r s.0 t
           | inr t ↦ half-first f p r s.0 t
         ])

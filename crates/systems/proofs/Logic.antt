@@ -3,7 +3,9 @@ use Prim.Native.Nat.{ℕ, ◌<◌, ◌≤◌}
 use mathlib.Core.Path.{◌≡◌, refl, sym, ◌∙◌}
 use mathlib.Core.Logic.{◌↔◌, ◌⊎◌, inl, inr}
 use mathlib.Core.Bool.{Bool, true, false, cond, not, ◌&&◌, ◌||◌, true≢false}
-use mathlib.Core.Option.{Option, none, some}
+use Rattle.std.specs.Prelude.{None, Option, Some, is_none, is_some}
+use Rattle.std.specs.Option.{option_map}
+use Rattle.std.proofs.lemmas.Option.{none-some, same_Some}
 use native.Mathlib.Decide.{dec_lt}
 use native.Mathlib.Omega.{arith}
 use lib.Dec.{eqb, leb}
@@ -13,16 +15,32 @@ pub bool_cases : (t : Bool) → (t ≡ true) ⊎ (t ≡ false)
 bool_cases true = inl refl
 bool_cases false = inr refl
 
-pub option_cases : {B : Type 0} (o : Option B) → (o ≡ none) ⊎ ((b : B) × (o ≡ some b))
-option_cases none = inl refl
-option_cases (some b) = inr (b, refl)
+pub option_cases : {B : Type 0} (o : Option B) → (o ≡ None) ⊎ ((b : B) × (o ≡ Some b))
+option_cases None = inl refl
+option_cases (Some b) = inr (b, refl)
 
-pub some_not-none : {B : Type 0} (o : Option B) (b : B) → o ≡ some b → o ≡ none → ⊥
+pub some_not-none : {B : Type 0} (o : Option B) (b : B) → o ≡ Some b → o ≡ None → ⊥
 some_not-none o b e n = let z : ◌≡◌ {A = ℕ} 0 1 = cc in omega arith
 
-pub not-none_some : {B : Type 0} (o : Option B) → (o ≡ none → ⊥) → (b : B) × (o ≡ some b)
-not-none_some none n = absurd (n refl)
-not-none_some (some b) n = (b, refl)
+pub not-none_some : {B : Type 0} (o : Option B) → (o ≡ None → ⊥) → (b : B) × (o ≡ Some b)
+not-none_some None n = absurd (n refl)
+not-none_some (Some b) n = (b, refl)
+
+-- what a value or none under a function tells of the value
+pub option_map-some : {A B : Type 0} (f : A → B) (o : Option A) {y : B} → option_map f o ≡ Some y → (x : A) × (o ≡ Some x) × (f x ≡ y)
+option_map-some f None {y = y} e = absurd (none-some y e)
+option_map-some f (Some x) {y = y} e = (x, refl, same_Some (f x) y e)
+
+pub option_map-none : {A B : Type 0} (f : A → B) (o : Option A) → option_map f o ≡ None → o ≡ None
+option_map-none f None e = refl
+option_map-none f (Some x) e = absurd (none-some (f x) (sym e))
+
+-- a test for none, as the library states it
+pub told_none : {B : Type 0} (o : Option B) {b : Bool} → is_some o ≡ not b → b ≡ is_none o
+told_none None {b = true} e = refl
+told_none None {b = false} e = absurd (true≢false (sym e))
+told_none (Some x) {b = true} e = absurd (true≢false e)
+told_none (Some x) {b = false} e = refl
 
 pub not_true_false : (t : Bool) → (t ≡ true → ⊥) → t ≡ false
 not_true_false true n = absurd (n refl)
@@ -85,23 +103,23 @@ test_leb false a b e = elim (dec_lt b a) [
 ]
 
 module _ {B : Type 0} where
-  pub given_some : (t : Bool) (a b : B) → cond t (some a) none ≡ some b → (t ≡ true) × (b ≡ a)
+  pub given_some : (t : Bool) (a b : B) → cond t (Some a) None ≡ Some b → (t ≡ true) × (b ≡ a)
   given_some true a b e = (refl, cc)
   given_some false a b e = let z : ◌≡◌ {A = ℕ} 0 1 = cc in absurd (omega arith)
 
-  pub given-none : (t : Bool) (a : B) → cond t (some a) none ≡ none → t ≡ false
+  pub given-none : (t : Bool) (a : B) → cond t (Some a) None ≡ None → t ≡ false
   given-none true a e = let z : ◌≡◌ {A = ℕ} 0 1 = cc in absurd (omega arith)
   given-none false a e = refl
 
-  pub unless_some : (t : Bool) (o : Option B) (b : B) → cond t none o ≡ some b → (t ≡ false) × (o ≡ some b)
+  pub unless_some : (t : Bool) (o : Option B) (b : B) → cond t None o ≡ Some b → (t ≡ false) × (o ≡ Some b)
   unless_some true o b e = let z : ◌≡◌ {A = ℕ} 0 1 = cc in absurd (omega arith)
   unless_some false o b e = (refl, e)
 
-  pub else_some : (t : Bool) (a : B) (o : Option B) (b : B) → cond t (some a) o ≡ some b
-      → ((t ≡ true) × (b ≡ a)) ⊎ ((t ≡ false) × (o ≡ some b))
+  pub else_some : (t : Bool) (a : B) (o : Option B) (b : B) → cond t (Some a) o ≡ Some b
+      → ((t ≡ true) × (b ≡ a)) ⊎ ((t ≡ false) × (o ≡ Some b))
   else_some true a o b e = inl (refl, cc)
   else_some false a o b e = inr (refl, e)
 
-  pub else_none : (t : Bool) (a : B) (o : Option B) → cond t (some a) o ≡ none → (t ≡ false) × (o ≡ none)
+  pub else_none : (t : Bool) (a : B) (o : Option B) → cond t (Some a) o ≡ None → (t ≡ false) × (o ≡ None)
   else_none true a o e = let z : ◌≡◌ {A = ℕ} 0 1 = cc in absurd (omega arith)
   else_none false a o e = (refl, e)

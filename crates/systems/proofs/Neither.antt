@@ -3,7 +3,7 @@
 use Prim.Native.Nat.{ℕ, zero, suc, ◌+◌, ◌-◌, ◌≤◌, ◌<◌}
 use mathlib.Core.Path.{◌≡◌, refl, sym, ap, ◌∙◌}
 use mathlib.Core.Logic.{◌↔◌, ◌⊎◌, inl, inr}
-use mathlib.Core.Option.{none, some}
+use Rattle.std.specs.Prelude.{None, Some}
 use mathlib.Core.List.{List, [], ◌∷◌, ◌++◌, append-nil}
 use native.Mathlib.Decide.{dec_lt}
 use native.Mathlib.Nat.{zero-add, suc-add}
@@ -12,7 +12,8 @@ use lib.ListN.{length, take}
 use Rattle.words.specs.Alphabet.{Alphabet}
 use Rattle.words.proofs.Alphabet.{AlphabetLaws}
 use Rattle.systems.specs.Products.{word, FreelyReduced}
-use Rattle.systems.specs.Moves.{Move, moved_word, made, made_all}
+use Rattle.systems.specs.Moves.{moved_word, made, made_all}
+use Rattle.systems.specs.declared.Move.{Move}
 use Rattle.systems.specs.Reduced.{AtMostHalf, Reduced}
 use Rattle.systems.specs.Rules.{shortening, half_end, next, moves_within, run_within}
 use Rattle.systems.proofs.Logic.{option_cases, some_not-none}
@@ -36,22 +37,22 @@ module _ {A : Type 0} (G : Alphabet A) where
   Within b S = (k : ℕ) → length (word G S k) ≤ b
 
   -- "Half-end move, only when nothing shortens"
-  pub next-shortening : (S : List (List A)) (m : Move) → shortening G S ≡ some m → next G S ≡ some m
+  pub next-shortening : (S : List (List A)) (m : Move) → shortening G S ≡ Some m → next G S ≡ Some m
   unfolding next
   next-shortening S m e = rw (e, next)
 
-  pub next-half_end : (S : List (List A)) → shortening G S ≡ none → next G S ≡ half_end G S
+  pub next-half_end : (S : List (List A)) → shortening G S ≡ None → next G S ≡ half_end G S
   unfolding next
   next-half_end S e = rw (e, next)
 
-  pub next_from : (S : List (List A)) (m : Move) → next G S ≡ some m
-      → (shortening G S ≡ some m) ⊎ ((shortening G S ≡ none) × (half_end G S ≡ some m))
+  pub next_from : (S : List (List A)) (m : Move) → next G S ≡ Some m
+      → (shortening G S ≡ Some m) ⊎ ((shortening G S ≡ None) × (half_end G S ≡ Some m))
   next_from S m e = elim (option_cases (shortening G S)) [
     | inl d ↦ inr (d, sym (next-half_end S d) ∙ e)
     | inr r ↦ inl (r.1 ∙ sym (next-shortening S r.0 r.1) ∙ e)
   ]
 
-  pub next_neither : (S : List (List A)) → next G S ≡ none → (shortening G S ≡ none) × (half_end G S ≡ none)
+  pub next_neither : (S : List (List A)) → next G S ≡ None → (shortening G S ≡ None) × (half_end G S ≡ None)
   next_neither S e = elim (option_cases (shortening G S)) [
     | inl d ↦ (d, sym (next-half_end S d) ∙ e)
     | inr r ↦ absurd (some_not-none (next G S) r.0 (next-shortening S r.0 r.1) e)
@@ -71,17 +72,17 @@ module _ {A : Type 0} (G : Alphabet A) where
   made_all_way_within S [] (suc i) b v h = h
   made_all_way_within S (m ∷ ms) (suc i) b v h = made_all_way_within (made G S m) ms i b v.1 (made-within S m b v.0 h)
 
-  pub moves_stop : (n : ℕ) (S : List (List A)) → next G S ≡ none → moves_within G n S ≡ []
+  pub moves_stop : (n : ℕ) (S : List (List A)) → next G S ≡ None → moves_within G n S ≡ []
   moves_stop zero S e = refl
   moves_stop (suc n) S e = rw (e, moves_within)
 
-  pub moves_more : (n : ℕ) (S : List (List A)) (m : Move) → next G S ≡ some m → moves_within G (suc n) S ≡ m ∷ moves_within G n (made G S m)
+  pub moves_more : (n : ℕ) (S : List (List A)) (m : Move) → next G S ≡ Some m → moves_within G (suc n) S ≡ m ∷ moves_within G n (made G S m)
   moves_more n S m e = rw (e, moves_within)
 
-  pub run_stop : (n : ℕ) (S : List (List A)) → next G S ≡ none → run_within G n S ≡ S
+  pub run_stop : (n : ℕ) (S : List (List A)) → next G S ≡ None → run_within G n S ≡ S
   run_stop n S e = rw (moves_stop n S e)
 
-  pub run_more : (n : ℕ) (S : List (List A)) (m : Move) → next G S ≡ some m → run_within G (suc n) S ≡ run_within G n (made G S m)
+  pub run_more : (n : ℕ) (S : List (List A)) (m : Move) → next G S ≡ Some m → run_within G (suc n) S ≡ run_within G n (made G S m)
   run_more n S m e = rw (moves_more n S m e)
 
   -- a run with room for just its own moves is the same
@@ -108,25 +109,25 @@ module _ {A : Type 0} (G : Alphabet A) where
   run_then n k S = rw (moves_then n k S) (made_all-append G S (moves_within G n S) (moves_within G k (run_within G n S)))
 
   -- one move more at the end
-  pub moves_last : (n : ℕ) (S : List (List A)) (m : Move) → next G (run_within G n S) ≡ some m
+  pub moves_last : (n : ℕ) (S : List (List A)) (m : Move) → next G (run_within G n S) ≡ Some m
       → moves_within G (n + 1) S ≡ moves_within G n S ++ (m ∷ [])
   moves_last n S m e = rw (moves_then n 1 S, moves_more 0 (run_within G n S) m e)
 
-  pub run_last : (n : ℕ) (S : List (List A)) (m : Move) → next G (run_within G n S) ≡ some m
+  pub run_last : (n : ℕ) (S : List (List A)) (m : Move) → next G (run_within G n S) ≡ Some m
       → run_within G (n + 1) S ≡ made G (run_within G n S) m
   run_last n S m e = rw (run_then n 1 S, run_more 0 (run_within G n S) m e)
 
   -- where a run has come to its end, more room changes nothing
-  pub moves_ended : (n k : ℕ) (S : List (List A)) → next G (run_within G n S) ≡ none → n ≤ k → moves_within G k S ≡ moves_within G n S
+  pub moves_ended : (n k : ℕ) (S : List (List A)) → next G (run_within G n S) ≡ None → n ≤ k → moves_within G k S ≡ moves_within G n S
   moves_ended n k S e h =
       let q : k ≡ n + (k - n) = omega arith in
       rw (q, moves_then n (k - n) S, moves_stop (k - n) (run_within G n S) e) (append-nil (moves_within G n S))
 
-  pub run_ended : (n k : ℕ) (S : List (List A)) → next G (run_within G n S) ≡ none → n ≤ k → run_within G k S ≡ run_within G n S
+  pub run_ended : (n k : ℕ) (S : List (List A)) → next G (run_within G n S) ≡ None → n ≤ k → run_within G k S ≡ run_within G n S
   run_ended n k S e h = rw (moves_ended n k S e h)
 
   -- a run with another move to make has used all its room; one that has not has come to its end
-  pub moves_full : (n : ℕ) (S : List (List A)) (m : Move) → next G (run_within G n S) ≡ some m → length (moves_within G n S) ≡ n
+  pub moves_full : (n : ℕ) (S : List (List A)) (m : Move) → next G (run_within G n S) ≡ Some m → length (moves_within G n S) ≡ n
   moves_full zero S m e = refl
   moves_full (suc n) S m e = elim (option_cases (next G S)) [
     | inl d ↦ absurd (some_not-none (next G S) m (rw (run_stop (suc n) S d) at e) d)
@@ -141,19 +142,19 @@ module _ {A : Type 0} (G : Alphabet A) where
   ]
 
   -- after n moves a run has come to its end: with room for k moves it makes the first k, and it comes to its end exactly where all fit
-  module _ (n k : ℕ) (S : List (List A)) (ended : next G (run_within G n S) ≡ none) where
-    pub moves-over : next G (run_within G k S) ≡ none → length (moves_within G n S) ≤ k
+  module _ (n k : ℕ) (S : List (List A)) (ended : next G (run_within G n S) ≡ None) where
+    pub moves-over : next G (run_within G k S) ≡ None → length (moves_within G n S) ≤ k
     moves-over e = elim (dec_lt k n) [
       | yes h ↦ rw (moves_ended k n S e (omega arith)) (moves-most k S)
       | no h ↦ omega (arith, moves-most n S)
     ]
 
-    pub moves_fit : length (moves_within G n S) ≤ k → next G (run_within G k S) ≡ none
+    pub moves_fit : length (moves_within G n S) ≤ k → next G (run_within G k S) ≡ None
     moves_fit h =
-        let again : next G (run_within G (length (moves_within G n S)) S) ≡ none = rw (moves_again n S) ended in
+        let again : next G (run_within G (length (moves_within G n S)) S) ≡ None = rw (moves_again n S) ended in
         rw (run_ended (length (moves_within G n S)) k S again h) again
 
-  pub moves-first : (n k : ℕ) (S : List (List A)) → next G (run_within G n S) ≡ none → moves_within G k S ≡ take k (moves_within G n S)
+  pub moves-first : (n k : ℕ) (S : List (List A)) → next G (run_within G n S) ≡ None → moves_within G k S ≡ take k (moves_within G n S)
   moves-first n zero S ended = refl
   moves-first zero (suc k) S ended = moves_stop (suc k) S ended
   moves-first (suc n) (suc k) S ended = elim (option_cases (next G S)) [
@@ -167,16 +168,16 @@ module _ {A : Type 0} (G : Alphabet A) (L : AlphabetLaws G) where
   pub run-freely_reduced : (n : ℕ) (S : List (List A)) → FreelyReduced G S → FreelyReduced G (run_within G n S)
   run-freely_reduced n S h = made_all-freely_reduced G L S (moves_within G n S) h
 
-  pub next_valid : (S : List (List A)) → FreelyReduced G S → (m : Move) → next G S ≡ some m → Valid G S m
+  pub next_valid : (S : List (List A)) → FreelyReduced G S → (m : Move) → next G S ≡ Some m → Valid G S m
   next_valid S freely m e = elim (next_from G S m e) [
     | inl s ↦ record { allowed = shortening-allowed G L S freely m s; no_longer = omega (arith, shortening_shorter G L S freely m s) }
     | inr h ↦ record { allowed = half_end-allowed G L S m h.1; no_longer = half_end_no_longer G L S freely m h.1 }
   ]
 
   -- a move shortens its word strictly, or is a half-end move and keeps the length
-  pub next-length : (S : List (List A)) → FreelyReduced G S → (m : Move) → next G S ≡ some m
+  pub next-length : (S : List (List A)) → FreelyReduced G S → (m : Move) → next G S ≡ Some m
       → (length (moved_word G S m) < length (word G S m.changed))
-      ⊎ ((shortening G S ≡ none) × (half_end G S ≡ some m) × (length (moved_word G S m) ≡ length (word G S m.changed)))
+      ⊎ ((shortening G S ≡ None) × (half_end G S ≡ Some m) × (length (moved_word G S m) ≡ length (word G S m.changed)))
   next-length S freely m e = elim (next_from G S m e) [
     | inl s ↦ inl (shortening_shorter G L S freely m s)
     | inr h ↦ inr (h.0, h.1, half_end-same-length G L S freely ((shortening-none G L S freely).0 h.0) m h.1)
@@ -197,18 +198,18 @@ module _ {A : Type 0} (G : Alphabet A) (L : AlphabetLaws G) where
   module _ (no_own_inverse : (x : A) → G.flip x ≡ x → ⊥) where
     -- "A system is reduced when, for two elements of its words and inverses that stand in different slots, no product of them cancels more
     -- than half of either, and in no product of three is the middle one wholly cancelled": exactly when neither rule applies
-    pub next-none : (S : List (List A)) → FreelyReduced G S → (next G S ≡ none) ↔ Reduced G S
+    pub next-none : (S : List (List A)) → FreelyReduced G S → (next G S ≡ None) ↔ Reduced G S
     next-none S freely = (to, of)
       where
-        to : next G S ≡ none → Reduced G S
+        to : next G S ≡ None → Reduced G S
         to e =
             let neither = next_neither G S e in
             let half : AtMostHalf G S = (shortening-none G L S freely).0 neither.0 in
             record { half = half; middle = (half_end-none G L S no_own_inverse freely half).0 neither.1 }
 
-        of : Reduced G S → next G S ≡ none
+        of : Reduced G S → next G S ≡ None
         of r = next-half_end G S ((shortening-none G L S freely).1 r.half) ∙ (half_end-none G L S no_own_inverse freely r.half).1 r.middle
 
     -- "repeat until neither rule applies": what a run leaves then is reduced
-    pub run-reduced : (n : ℕ) (S : List (List A)) → FreelyReduced G S → next G (run_within G n S) ≡ none → Reduced G (run_within G n S)
+    pub run-reduced : (n : ℕ) (S : List (List A)) → FreelyReduced G S → next G (run_within G n S) ≡ None → Reduced G (run_within G n S)
     run-reduced n S freely e = (next-none (run_within G n S) (run-freely_reduced n S freely)).0 e

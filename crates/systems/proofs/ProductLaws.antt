@@ -11,7 +11,8 @@ use Rattle.words.specs.Words.{push, freely_reduce, Irreducible, inverse}
 use Rattle.words.proofs.Alphabet.{AlphabetLaws, same?}
 use Rattle.words.proofs.FreeReduction.{push_cancel, push_keep, freely_reduce_irreducible, freely_reduce_both, freely_reduce_right, freely_reduce_empty_left, irreducible_tail}
 use Rattle.words.proofs.Inverse.{inverse-nil, inverse-cons, inverse-append, freely_reduce-inverse, freely_reduce_self_inverse}
-use Rattle.systems.specs.Products.{Factor, factors, word, value, spelled, multiplied, Over, OverWords, FreelyReducedOver, NotBlank}
+use Rattle.systems.specs.Products.{factors, word, value, spelled, multiplied, Over, OverWords, FreelyReducedOver, NotBlank}
+use Rattle.systems.specs.declared.Factor.{Factor}
 use Rattle.systems.proofs.Factors.{empty?, factor_laws, value-flip, value_blank}
 
 -- a product names only slots of which P holds

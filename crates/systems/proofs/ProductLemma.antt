@@ -11,7 +11,8 @@ use Rattle.words.specs.Words.{freely_reduce, Irreducible, common_prefix, cancell
 use Rattle.words.proofs.Alphabet.{AlphabetLaws, flip_turn}
 use Rattle.words.proofs.FreeReduction.{irreducible_next, freely_reduce-same}
 use Rattle.words.proofs.Cancellation.{common_prefix-most, cancellation_le_left, cancellation_le_right, cancellation_local, length-cancellation, freely_reduce-begins}
-use Rattle.systems.specs.Products.{Factor, factors, value, multiplied, FreelyReducedOver, FreelyReduced, NotBlank}
+use Rattle.systems.specs.Products.{factors, value, multiplied, FreelyReducedOver, FreelyReduced, NotBlank}
+use Rattle.systems.specs.declared.Factor.{Factor}
 use Rattle.systems.specs.Reduced.{cancellation_of, size, Reduced}
 use Rattle.systems.proofs.Factors.{factor_laws, factor_no_own_inverse, same_factor, value_irreducible}
 use Rattle.systems.proofs.ProductLaws.{multiplied-cons, multiplied_irreducible, freely-reduced_tail}

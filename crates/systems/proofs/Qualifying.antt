@@ -14,7 +14,8 @@ use Rattle.words.specs.Alphabet.{Alphabet}
 use Rattle.words.specs.Words.{inverse, common_prefix}
 use Rattle.words.proofs.Alphabet.{AlphabetLaws}
 use Rattle.words.proofs.Cancellation.{common_prefix_comm, common_prefix_le_right, cancellation-common_prefix, cancellation-inverse_left, cancellation_self}
-use Rattle.systems.specs.Products.{Factor, factors, word, value, FreelyReduced, NotBlank}
+use Rattle.systems.specs.Products.{factors, word, value, FreelyReduced, NotBlank}
+use Rattle.systems.specs.declared.Factor.{Factor}
 use Rattle.systems.specs.Reduced.{AtMostHalf, MiddleKept, cancellation_of, size}
 use Rattle.systems.specs.Rules.{any_below, first_half, second_half, begins, elsewhere, begins_elsewhere, qualifies}
 use Rattle.systems.proofs.Logic.{and_true, and_left, and_right, all_four, four_all, nonzero, or_left, or_right, or_either, not_true_false, true_not_false}

@@ -5,7 +5,7 @@ use Prim.Native.Nat.{ℕ, ◌+◌, ◌≤◌}
 use mathlib.Core.Path.{◌≡◌, refl, sym, ◌∙◌}
 use mathlib.Core.Logic.{◌↔◌}
 use mathlib.Core.Bool.{true}
-use mathlib.Core.Option.{none, some}
+use Rattle.std.specs.Prelude.{None, Some}
 use mathlib.Core.List.{List, [], ◌∷◌, ◌++◌, map}
 use native.Mathlib.Omega.{arith}
 use lib.ListN.{length, take, drop, length-append, length-map}
@@ -14,7 +14,8 @@ use Rattle.words.specs.Words.{freely_reduce}
 use Rattle.words.proofs.Alphabet.{AlphabetLaws}
 use Rattle.words.proofs.FreeReduction.{length-freely_reduce}
 use Rattle.systems.specs.Products.{word, Equivalent, Independent, FreelyReduced}
-use Rattle.systems.specs.Moves.{Move, made, made_all, undone_all}
+use Rattle.systems.specs.Moves.{made, made_all, undone_all}
+use Rattle.systems.specs.declared.Move.{Move}
 use Rattle.systems.specs.Reduced.{Reduced}
 use Rattle.systems.specs.Rules.{next, moves_within, run_within}
 use Rattle.systems.specs.Rank.{none_blank, rank}
@@ -72,7 +73,7 @@ module _ {A : Type 0} (G : Alphabet A) (L : AlphabetLaws G) where
       pub backward_way_within : (i : ℕ) → Within G b (undone_all G (run_within G n T) (drop i (moves_within G n T)))
       backward_way_within i = rw (backward_to i) (forward_way_within i)
 
-  module _ (no_own_inverse : (x : A) → G.flip x ≡ x → ⊥) (n : ℕ) (S : List (List A)) (ended : next G (run_within G n (map (freely_reduce G) S)) ≡ none) where
+  module _ (no_own_inverse : (x : A) → G.flip x ≡ x → ⊥) (n : ℕ) (S : List (List A)) (ended : next G (run_within G n (map (freely_reduce G) S)) ≡ None) where
     -- "repeat until neither rule applies": what is left is reduced
     start : FreelyReduced G (map (freely_reduce G) S)
     start = words-freely_reduced G L S
@@ -90,7 +91,7 @@ module _ {A : Type 0} (G : Alphabet A) (L : AlphabetLaws G) where
         )
 
 module _ {A : Type 0} (G : Alphabet A) (S current : List (List A)) (used : ℕ) (here : current ≡ run_within G used S) where
-  module _ (m : Move) (more : next G current ≡ some m) where
+  module _ (m : Move) (more : next G current ≡ Some m) where
     -- one move more is made
     pub turn_run : made G current m ≡ run_within G (used + 1) S
     turn_run = rw here (sym (run_last G used S m (rw here at more)))
@@ -101,11 +102,11 @@ module _ {A : Type 0} (G : Alphabet A) (S current : List (List A)) (used : ℕ) 
 
     pub turn_length : length (moves_within G (used + 1) S) ≡ used + 1
     turn_length =
-        let e : next G (run_within G used S) ≡ some m = rw here at more in
+        let e : next G (run_within G used S) ≡ Some m = rw here at more in
         rw (moves_last G used S m e, length-append, moves_full G used S m e)
 
   -- no further move: the run has come to its end, and more room would change nothing
-  module _ (ended : next G current ≡ none) (room : ℕ) (enough : used ≤ room) where
+  module _ (ended : next G current ≡ None) (room : ℕ) (enough : used ≤ room) where
     pub ended_moves : (logged : List Move) → logged ≡ moves_within G used S → moves_within G room S ≡ logged
     ended_moves logged log = moves_ended G used room S (rw here at ended) enough ∙ sym log
 

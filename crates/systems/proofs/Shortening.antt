@@ -4,7 +4,7 @@ use Prim.Native.Nat.{ℕ, ◌+◌, ◌*◌, ◌≤◌, ◌<◌}
 use mathlib.Core.Path.{◌≡◌, refl, sym, ap, ◌∙◌}
 use mathlib.Core.Logic.{◌↔◌, inl, inr}
 use mathlib.Core.Bool.{Bool, true, false}
-use mathlib.Core.Option.{none, some}
+use Rattle.std.specs.Prelude.{None, Some}
 use mathlib.Core.List.{List, []}
 use native.Mathlib.Omega.{arith}
 use native.Mathlib.Decide.{dec_lt, ℕ_discrete}
@@ -16,8 +16,12 @@ use Rattle.words.specs.Words.{freely_reduce, Irreducible, inverse, cancellation}
 use Rattle.words.proofs.Alphabet.{AlphabetLaws}
 use Rattle.words.proofs.Inverse.{inverse-length, inverse_twice, inverse_irreducible}
 use Rattle.words.proofs.Cancellation.{length-cancellation, cancellation_inverses, cancellation_le_left, cancellation_le_right}
-use Rattle.systems.specs.Products.{Factor, factors, word, value, FreelyReduced}
-use Rattle.systems.specs.Moves.{Form, form₁, form₂, form₃, form₄, Move, formed, moved_word, seam}
+use Rattle.systems.specs.Products.{factors, word, value, FreelyReduced}
+use Rattle.systems.specs.declared.Factor.{Factor}
+use Rattle.systems.specs.Moves.{formed, moved_word, seam}
+use Rattle.systems.specs.declared.Form.{Form}
+use Rattle.systems.specs.declared.Move.{Move}
+use Rattle.systems.specs.declared.Form.TheVariants.{After, Before, InverseAfter, InverseBefore}
 use Rattle.systems.specs.Reduced.{AtMostHalf, cancellation_of, size}
 use Rattle.systems.specs.Rules.{first, form_at, try_form, try_other, try_changed, shortening}
 use Rattle.systems.proofs.Logic.{option_cases, given_some, given-none, unless_some}
@@ -27,43 +31,43 @@ use Rattle.systems.proofs.ProductLaws.{word-slot}
 
 -- a form with the other word before the changed one, both with these signs
 abbrev pub form_of : Bool → Bool → Form
-form_of false false = form₁
-form_of true false = form₂
-form_of true true = form₃
-form_of false true = form₄
+form_of false false = Before
+form_of true false = InverseBefore
+form_of true true = After
+form_of false true = InverseAfter
 
 -- whether a form's other word is inverted, seen with the other word first
 abbrev pub other_sign : Form → Bool
-other_sign form₁ = false
-other_sign form₂ = true
-other_sign form₃ = true
-other_sign form₄ = false
+other_sign Before = false
+other_sign InverseBefore = true
+other_sign After = true
+other_sign InverseAfter = false
 
 -- whether its changed word then is
 abbrev pub changed_sign : Form → Bool
-changed_sign form₁ = false
-changed_sign form₂ = false
-changed_sign form₃ = true
-changed_sign form₄ = true
+changed_sign Before = false
+changed_sign InverseBefore = false
+changed_sign After = true
+changed_sign InverseAfter = true
 
 -- the place of a form among "forms 1 to 4", counted from 0
 abbrev form_place : Form → ℕ
-form_place form₁ = 0
-form_place form₂ = 1
-form_place form₃ = 2
-form_place form₄ = 3
+form_place Before = 0
+form_place InverseBefore = 1
+form_place After = 2
+form_place InverseAfter = 3
 
 form_at-place : (form : Form) → form_at (form_place form) ≡ form
-form_at-place form₁ = refl
-form_at-place form₂ = refl
-form_at-place form₃ = refl
-form_at-place form₄ = refl
+form_at-place Before = refl
+form_at-place InverseBefore = refl
+form_at-place After = refl
+form_at-place InverseAfter = refl
 
 form_place_few : (form : Form) → form_place form < 4
-form_place_few form₁ = omega arith
-form_place_few form₂ = omega arith
-form_place_few form₃ = omega arith
-form_place_few form₄ = omega arith
+form_place_few Before = omega arith
+form_place_few InverseBefore = omega arith
+form_place_few After = omega arith
+form_place_few InverseAfter = omega arith
 
 module _ {A : Type 0} (G : Alphabet A) where
   -- a move between two slots of the system: "Only slots that are not blank take part."
@@ -84,10 +88,10 @@ module _ {A : Type 0} (G : Alphabet A) where
 module _ {A : Type 0} (G : Alphabet A) (L : AlphabetLaws G) where
   pub formed-length : (form : Form) (u v : List A) → Irreducible G u → Irreducible G v
       → length (freely_reduce G (formed G form u v)) + 2 * seam G form u v ≡ length u + length v
-  formed-length form₁ u v h k = length-cancellation G L u v h k
-  formed-length form₂ u v h k = length-cancellation G L (inverse G u) v (inverse_irreducible G L u h) k ∙ ap (λ (n : ℕ). n + length v) (inverse-length G L u)
-  formed-length form₃ u v h k = omega (arith, length-cancellation G L v u k h)
-  formed-length form₄ u v h k = omega (arith, length-cancellation G L v (inverse G u) k (inverse_irreducible G L u h), inverse-length G L u)
+  formed-length Before u v h k = length-cancellation G L u v h k
+  formed-length InverseBefore u v h k = length-cancellation G L (inverse G u) v (inverse_irreducible G L u h) k ∙ ap (λ (n : ℕ). n + length v) (inverse-length G L u)
+  formed-length After u v h k = omega (arith, length-cancellation G L v u k h)
+  formed-length InverseAfter u v h k = omega (arith, length-cancellation G L v (inverse G u) k (inverse_irreducible G L u h), inverse-length G L u)
 
   -- the result is shorter than the changed word exactly when more than half of the other word cancels
   pub formed_shorter : (form : Form) (u v : List A) → Irreducible G u → Irreducible G v
@@ -95,33 +99,33 @@ module _ {A : Type 0} (G : Alphabet A) (L : AlphabetLaws G) where
   formed_shorter form u v h k = let e = formed-length form u v h k in omega arith
 
   pub seam_le_other : (form : Form) (u v : List A) → seam G form u v ≤ length u
-  seam_le_other form₁ u v = cancellation_le_left G L u v
-  seam_le_other form₂ u v = omega (arith, cancellation_le_left G L (inverse G u) v, inverse-length G L u)
-  seam_le_other form₃ u v = cancellation_le_right G L v u
-  seam_le_other form₄ u v = omega (arith, cancellation_le_right G L v (inverse G u), inverse-length G L u)
+  seam_le_other Before u v = cancellation_le_left G L u v
+  seam_le_other InverseBefore u v = omega (arith, cancellation_le_left G L (inverse G u) v, inverse-length G L u)
+  seam_le_other After u v = cancellation_le_right G L v u
+  seam_le_other InverseAfter u v = omega (arith, cancellation_le_right G L v (inverse G u), inverse-length G L u)
 
   pub seam_le_changed : (form : Form) (u v : List A) → seam G form u v ≤ length v
-  seam_le_changed form₁ u v = cancellation_le_right G L u v
-  seam_le_changed form₂ u v = cancellation_le_right G L (inverse G u) v
-  seam_le_changed form₃ u v = cancellation_le_left G L v u
-  seam_le_changed form₄ u v = cancellation_le_left G L v (inverse G u)
+  seam_le_changed Before u v = cancellation_le_right G L u v
+  seam_le_changed InverseBefore u v = cancellation_le_right G L (inverse G u) v
+  seam_le_changed After u v = cancellation_le_left G L v u
+  seam_le_changed InverseAfter u v = cancellation_le_left G L v (inverse G u)
 
   module _ (S : List (List A)) where
     -- what cancels in a form is what cancels between two factors
     pub seam_cancels : (form : Form) (i k : ℕ) → seam G form (word G S i) (word G S k)
         ≡ cancellation_of G S (record { slot = i; inverted = other_sign form }) (record { slot = k; inverted = changed_sign form })
-    seam_cancels form₁ i k = refl
-    seam_cancels form₂ i k = refl
-    seam_cancels form₃ i k = cancellation_inverses G L (word G S k) (word G S i)
-    seam_cancels form₄ i k = cancellation_inverses G L (word G S k) (inverse G (word G S i))
+    seam_cancels Before i k = refl
+    seam_cancels InverseBefore i k = refl
+    seam_cancels After i k = cancellation_inverses G L (word G S k) (word G S i)
+    seam_cancels InverseAfter i k = cancellation_inverses G L (word G S k) (inverse G (word G S i))
         ∙ ap (λ (u : List A). cancellation G u (inverse G (word G S k))) (inverse_twice G L (word G S i))
 
     formed-signs : (b c : Bool) (i k : ℕ) → cancellation_of G S (record { slot = i; inverted = b }) (record { slot = k; inverted = c })
         ≡ seam G (form_of b c) (word G S i) (word G S k)
-    formed-signs false false i k = sym (seam_cancels form₁ i k)
-    formed-signs true false i k = sym (seam_cancels form₂ i k)
-    formed-signs true true i k = sym (seam_cancels form₃ i k)
-    formed-signs false true i k = sym (seam_cancels form₄ i k)
+    formed-signs false false i k = sym (seam_cancels Before i k)
+    formed-signs true false i k = sym (seam_cancels InverseBefore i k)
+    formed-signs true true i k = sym (seam_cancels After i k)
+    formed-signs false true i k = sym (seam_cancels InverseAfter i k)
 
     -- and the other way round
     pub cancels_seam : (x y : Factor) → cancellation_of G S x y ≡ seam G (form_of x.inverted y.inverted) (word G S x.slot) (word G S y.slot)
@@ -139,33 +143,33 @@ module _ {A : Type 0} (G : Alphabet A) (L : AlphabetLaws G) where
 
     -- "if the freely reduced result is strictly shorter than w(k)"
     pub try_shorter : (k i : ℕ) (form : Form) → length (freely_reduce G (formed G form (word G S i) (word G S k))) < length (word G S k)
-        → try_form G S k i form ≡ some (record { changed = k; form = form; other = i })
+        → try_form G S k i form ≡ Some (record { changed = k; form = form; other = i })
     try_shorter k i form h = rw (lt-ltb (length (freely_reduce G (formed G form (word G S i) (word G S k)))) (length (word G S k)) h)
 
     pub try_not_shorter : (k i : ℕ) (form : Form) → length (word G S k) ≤ length (freely_reduce G (formed G form (word G S i) (word G S k)))
-        → try_form G S k i form ≡ none
+        → try_form G S k i form ≡ None
     try_not_shorter k i form h = rw (le-ltb (length (freely_reduce G (formed G form (word G S i) (word G S k)))) (length (word G S k)) h)
 
     -- "except k"
-    pub other-same : (k i : ℕ) → i ≡ k → try_other G S k i ≡ none
+    pub other-same : (k i : ℕ) → i ≡ k → try_other G S k i ≡ None
     other-same k i e = rw (eq-eqb i k e)
 
     pub other_differs : (k i : ℕ) → (i ≡ k → ⊥) → try_other G S k i ≡ first (λ j. try_form G S k i (form_at j)) 4
     other_differs k i n = rw (ne_eqb i k n)
 
-    pub other_missed : (k i : ℕ) → first (λ j. try_form G S k i (form_at j)) 4 ≡ none → try_other G S k i ≡ none
+    pub other_missed : (k i : ℕ) → first (λ j. try_form G S k i (form_at j)) 4 ≡ None → try_other G S k i ≡ None
     other_missed k i e = elim (ℕ_discrete i k) [ yes p ↦ other-same k i p | no n ↦ other_differs k i n ∙ e ]
 
     -- "The first pair and form found in this order is the move made."
-    pub shortening-found : (k i j : ℕ) (m : Move) → k < length S → first (try_changed G S) k ≡ none → i < length S → first (try_other G S k) i ≡ none
-        → (i ≡ k → ⊥) → j < 4 → first (λ n. try_form G S k i (form_at n)) j ≡ none → try_form G S k i (form_at j) ≡ some m → shortening G S ≡ some m
+    pub shortening-found : (k i j : ℕ) (m : Move) → k < length S → first (try_changed G S) k ≡ None → i < length S → first (try_other G S k) i ≡ None
+        → (i ≡ k → ⊥) → j < 4 → first (λ n. try_form G S k i (form_at n)) j ≡ None → try_form G S k i (form_at j) ≡ Some m → shortening G S ≡ Some m
     unfolding shortening
     shortening-found k i j m h before_k l before_i n f before-j e =
-        let at_i : try_other G S k i ≡ some m = other_differs k i n ∙ first_found (λ (n : ℕ). try_form G S k i (form_at n)) j 4 m f before-j e in
-        let at_k : try_changed G S k ≡ some m = first_found (try_other G S k) i (length S) m l before_i at_i in
+        let at_i : try_other G S k i ≡ Some m = other_differs k i n ∙ first_found (λ (n : ℕ). try_form G S k i (form_at n)) j 4 m f before-j e in
+        let at_k : try_changed G S k ≡ Some m = first_found (try_other G S k) i (length S) m l before_i at_i in
         first_found (try_changed G S) k (length S) m h before_k at_k
 
-    pub try_found : (k i : ℕ) (form : Form) (m : Move) → try_form G S k i form ≡ some m
+    pub try_found : (k i : ℕ) (form : Form) (m : Move) → try_form G S k i form ≡ Some m
         → (length (freely_reduce G (formed G form (word G S i) (word G S k))) < length (word G S k)) × (m ≡ record { changed = k; form = form; other = i })
     try_found k i form m e =
         let new : ℕ = length (freely_reduce G (formed G form (word G S i) (word G S k))) in
@@ -173,7 +177,7 @@ module _ {A : Type 0} (G : Alphabet A) (L : AlphabetLaws G) where
         let found = given_some (ltb new old) (record { changed = k; form = form; other = i }) m e in
         (ltb-true new old found.0, found.1)
 
-    pub try_missed : (k i : ℕ) (form : Form) → try_form G S k i form ≡ none
+    pub try_missed : (k i : ℕ) (form : Form) → try_form G S k i form ≡ None
         → length (word G S k) ≤ length (freely_reduce G (formed G form (word G S i) (word G S k)))
     try_missed k i form e =
         let new : ℕ = length (freely_reduce G (formed G form (word G S i) (word G S k))) in
@@ -182,7 +186,7 @@ module _ {A : Type 0} (G : Alphabet A) (L : AlphabetLaws G) where
         ltb-false new old (given-none (ltb new old) m e)
 
     -- what is found shortens
-    pub shortening_shortens : (m : Move) → shortening G S ≡ some m → Shortens G S m
+    pub shortening_shortens : (m : Move) → shortening G S ≡ Some m → Shortens G S m
     unfolding shortening
     shortening_shortens m e =
         let at_k = first_some (try_changed G S) (length S) m e in
@@ -196,17 +200,17 @@ module _ {A : Type 0} (G : Alphabet A) (L : AlphabetLaws G) where
         (record { distinct = λ q. eqb-false i k apart.0 (sym q); changed_inside = at_k.1; other_inside = at_i.1; shorter = found.0 })
 
     -- where nothing is found, nothing shortens
-    pub shortening_misses : shortening G S ≡ none → (m : Move) → Shortens G S m → ⊥
+    pub shortening_misses : shortening G S ≡ None → (m : Move) → Shortens G S m → ⊥
     unfolding shortening
     shortening_misses e m s =
         let k : ℕ = m.changed in
         let i : ℕ = m.other in
-        let at_k : try_changed G S k ≡ none = first-each (try_changed G S) (length S) e k s.changed_inside in
-        let at_i : try_other G S k i ≡ none = first-each (try_other G S k) (length S) at_k i s.other_inside in
+        let at_k : try_changed G S k ≡ None = first-each (try_changed G S) (length S) e k s.changed_inside in
+        let at_i : try_other G S k i ≡ None = first-each (try_other G S k) (length S) at_k i s.other_inside in
         let at_j = first-each (λ (j : ℕ). try_form G S k i (form_at j)) 4 (sym (other_differs k i (λ q. s.distinct (sym q))) ∙ at_i) in
         omega (arith, s.shorter, try_missed k i m.form (rw form_at-place at (at_j (form_place m.form) (form_place_few m.form))))
 
-    pub nothing_shortens : ((m : Move) → Shortens G S m → ⊥) → shortening G S ≡ none
+    pub nothing_shortens : ((m : Move) → Shortens G S m → ⊥) → shortening G S ≡ None
     nothing_shortens n = elim (option_cases (shortening G S)) [
       | inl e ↦ e
       | inr r ↦ absurd (n r.0 (shortening_shortens r.0 r.1))
@@ -260,10 +264,10 @@ module _ {A : Type 0} (G : Alphabet A) (L : AlphabetLaws G) where
 
       -- "Shortening: .. if the freely reduced result is strictly shorter than w(k)": nothing shortens exactly where the first condition of a
       -- reduced system holds
-      pub shortening-none : (shortening G S ≡ none) ↔ AtMostHalf G S
+      pub shortening-none : (shortening G S ≡ None) ↔ AtMostHalf G S
       shortening-none = (to, λ half. nothing_shortens (half_keeps half))
         where
-          to : shortening G S ≡ none → AtMostHalf G S
+          to : shortening G S ≡ None → AtMostHalf G S
           to e x y p q d =
               let n : (m : Move) → Shortens G S m → ⊥ = shortening_misses e in (
                 keeps_half n x y d,
@@ -277,8 +281,8 @@ module _ {A : Type 0} (G : Alphabet A) (L : AlphabetLaws G) where
               )
 
       -- a found shortening is allowed, and its result strictly shorter
-      pub shortening-allowed : (m : Move) → shortening G S ≡ some m → Allowed G S m
+      pub shortening-allowed : (m : Move) → shortening G S ≡ Some m → Allowed G S m
       shortening-allowed m e = shortens_allowed m (shortening_shortens m e)
 
-      pub shortening_shorter : (m : Move) → shortening G S ≡ some m → length (moved_word G S m) < length (word G S m.changed)
+      pub shortening_shorter : (m : Move) → shortening G S ≡ Some m → length (moved_word G S m) < length (word G S m.changed)
       shortening_shorter m e = (shortening_shortens m e).shorter

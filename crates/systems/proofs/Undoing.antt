@@ -13,7 +13,10 @@ use Rattle.words.proofs.Alphabet.{AlphabetLaws}
 use Rattle.words.proofs.FreeReduction.{freely_reduce_irreducible, freely_reduce-same}
 use Rattle.words.proofs.Inverse.{freely_reduce-undo_left, freely_reduce_redo_left, freely_reduce-undo_right, freely_reduce_redo_right}
 use Rattle.systems.specs.Products.{word, FreelyReduced}
-use Rattle.systems.specs.Moves.{Form, form₁, form₂, form₃, form₄, Move, undoing, formed, moved_word, made, undone, made_all, undone_all, undo}
+use Rattle.systems.specs.Moves.{undoing, formed, moved_word, made, undone, made_all, undone_all, undo}
+use Rattle.systems.specs.declared.Form.{Form}
+use Rattle.systems.specs.declared.Move.{Move}
+use Rattle.systems.specs.declared.Form.TheVariants.{After, Before, InverseAfter, InverseBefore}
 
 -- "with two different slots"
 abbrev pub Apart : Move → Type 0
@@ -33,10 +36,10 @@ apart_drop (suc i) [] a = a
 apart_drop (suc i) (m ∷ ms) a = apart_drop i ms a.1
 
 undoing_twice : (form : Form) → undoing (undoing form) ≡ form
-undoing_twice form₁ = refl
-undoing_twice form₂ = refl
-undoing_twice form₃ = refl
-undoing_twice form₄ = refl
+undoing_twice Before = refl
+undoing_twice InverseBefore = refl
+undoing_twice After = refl
+undoing_twice InverseAfter = refl
 
 -- what holds of each item of a list, and of the new one, holds of each after the change
 pub set_holds : {B : Type 0} (P : ℕ → B → Type 0) (l : List B) (i : ℕ) (b d : B) → ((k : ℕ) → P k (get_or l k d)) → P i b
@@ -97,10 +100,10 @@ module _ {A : Type 0} (G : Alphabet A) (L : AlphabetLaws G) where
 
   -- one word: the undoing form takes the factor away again
   formed-undone : (form : Form) (wi wk : List A) → freely_reduce G (formed G (undoing form) wi (freely_reduce G (formed G form wi wk))) ≡ freely_reduce G wk
-  formed-undone form₁ wi wk = freely_reduce-undo_left G L wi wk
-  formed-undone form₂ wi wk = freely_reduce_redo_left G L wi wk
-  formed-undone form₃ wi wk = freely_reduce-undo_right G L wk wi
-  formed-undone form₄ wi wk = freely_reduce_redo_right G L wk wi
+  formed-undone Before wi wk = freely_reduce-undo_left G L wi wk
+  formed-undone InverseBefore wi wk = freely_reduce_redo_left G L wi wk
+  formed-undone After wi wk = freely_reduce-undo_right G L wk wi
+  formed-undone InverseAfter wi wk = freely_reduce_redo_right G L wk wi
 
   -- a move made and undone gives the system back
   pub made-undone : (S : List (List A)) (m : Move) → FreelyReduced G S → Apart m → undone G (made G S m) m ≡ S

@@ -9,7 +9,8 @@ use Rattle.words.specs.Words.{freely_reduce, inverse}
 use Rattle.words.proofs.Alphabet.{AlphabetLaws}
 use Rattle.words.proofs.FreeReduction.{freely_reduce_irreducible, freely_reduce-same}
 use Rattle.words.proofs.Inverse.{inverse_twice, inverse_unique, freely_reduce-inverse_self}
-use Rattle.systems.specs.Products.{Factor, factors, multiplied, OverWords, FreelyReducedOver, Independent, FreelyReduced}
+use Rattle.systems.specs.Products.{factors, multiplied, OverWords, FreelyReducedOver, Independent, FreelyReduced}
+use Rattle.systems.specs.declared.Factor.{Factor}
 use Rattle.systems.specs.Rank.{none_blank}
 use Rattle.systems.specs.Reduced.{Reduced}
 use Rattle.systems.proofs.Factors.{factor_laws}

@@ -1,10 +1,11 @@
 -- Writing a word as a product over a reduced system (Nielsen, section 3): one factor after the other is found at the word's beginning
 -- and taken off. That this decides what is generated is proved (`Decides` of asking); a reader need not trust it.
 use Rattle.std.specs.Prelude.{ℕ, zero, suc, ◌*◌, ◌%◌, Bool, true, false, cond, not, ◌&&◌, ◌||◌, List, [], ◌∷◌, ◌++◌, length, ltb, eqb}
-use Rattle.std.proofs.Math.Option.{Option, none, some}
+use Rattle.std.specs.Prelude.{None, Option, Some}
 use Rattle.words.specs.Alphabet.{Alphabet}
 use Rattle.words.specs.Words.{freely_reduce, inverse, common_prefix}
-use Rattle.systems.specs.Products.{Factor, factors, value}
+use Rattle.systems.specs.Products.{factors, value}
+use Rattle.systems.specs.declared.Factor.{Factor}
 use Rattle.systems.specs.Rules.{first, any_below, begins, ends, first_half, second_half}
 
 module _ {A : Type 0} (G : Alphabet A) where
@@ -13,7 +14,7 @@ module _ {A : Type 0} (G : Alphabet A) where
   either_of test k =
       let plain : Factor = record { slot = k; inverted = false } in
       let turned : Factor = record { slot = k; inverted = true } in
-      cond (test plain) (some plain) (cond (test turned) (some turned) none)
+      cond (test plain) (Some plain) (cond (test turned) (Some turned) None)
 
   -- a factor of which more than half begins the word
   abbrev pub big_end : List (List A) → List A → Factor → Bool
@@ -36,17 +37,17 @@ module _ {A : Type 0} (G : Alphabet A) where
   -- the factor with which the word begins: a big end, or else a half
   unfoldable pub leading : List (List A) → List A → Option Factor
   leading S w =
-      elim (first (either_of (big_end S w)) (length S)) [ none ↦ first (either_of (half_start S w)) (length S) | some x ↦ some x ]
+      elim (first (either_of (big_end S w)) (length S)) [ None ↦ first (either_of (half_start S w)) (length S) | Some x ↦ Some x ]
 
   -- the product, at most n factors long, that the word is; none where it is not one
   abbrev pub factored : List (List A) → ℕ → List A → Option (List Factor)
-  factored S zero w = elim w [ [] ↦ some [] | a ∷ v ↦ none ]
+  factored S zero w = elim w [ [] ↦ Some [] | a ∷ v ↦ None ]
   factored S (suc n) w =
       elim w [
-        | [] ↦ some []
+        | [] ↦ Some []
         | a ∷ v ↦
             elim (leading S (a ∷ v)) [
-              | none ↦ none
-              | some x ↦ elim (factored S n (freely_reduce G (inverse G (value G S x) ++ (a ∷ v)))) [ none ↦ none | some p ↦ some (x ∷ p) ]
+              | None ↦ None
+              | Some x ↦ elim (factored S n (freely_reduce G (inverse G (value G S x) ++ (a ∷ v)))) [ None ↦ None | Some p ↦ Some (x ∷ p) ]
             ]
       ]

@@ -3,23 +3,23 @@ use Rattle.std.specs.Prelude.{ℕ, List, [], ◌∷◌, ◌++◌, set}
 use Rattle.words.specs.Alphabet.{Alphabet}
 use Rattle.words.specs.Words.{freely_reduce, inverse, cancellation}
 use Rattle.systems.specs.Products.{word}
+use Rattle.systems.specs.declared.Form.{Form}
+use Rattle.systems.specs.declared.Form.TheVariants.{After, Before, InverseAfter, InverseBefore}
+use Rattle.systems.specs.declared.Move.{Move}
 
--- the four forms of a move
-pub data Form : Type 0 where
-  form₁ form₂ form₃ form₄ : Form
-
--- "slot changed, form digit, other slot"
-pub record Move : Type 0 where
-  pub changed : ℕ
-  pub form : Form
-  pub other : ℕ
+-- the digit of a form, 1 to 4
+abbrev pub form_digit : Form → ℕ
+form_digit Before = 49
+form_digit InverseBefore = 50
+form_digit After = 51
+form_digit InverseAfter = 52
 
 -- the form that takes a move back
 abbrev pub undoing : Form → Form
-undoing form₁ = form₂
-undoing form₂ = form₁
-undoing form₃ = form₄
-undoing form₄ = form₃
+undoing Before = InverseBefore
+undoing InverseBefore = Before
+undoing After = InverseAfter
+undoing InverseAfter = After
 
 -- the move that takes a move back
 abbrev pub undo : Move → Move
@@ -28,17 +28,17 @@ undo m = record { changed = m.changed; form = undoing m.form; other = m.other }
 module _ {A : Type 0} (G : Alphabet A) where
   -- "1. w(i) w(k)  2. inverse of w(i), then w(k)  3. w(k) w(i)  4. w(k), then inverse of w(i)"
   abbrev pub formed : Form → List A → List A → List A
-  formed form₁ wi wk = wi ++ wk
-  formed form₂ wi wk = inverse G wi ++ wk
-  formed form₃ wi wk = wk ++ wi
-  formed form₄ wi wk = wk ++ inverse G wi
+  formed Before wi wk = wi ++ wk
+  formed InverseBefore wi wk = inverse G wi ++ wk
+  formed After wi wk = wk ++ wi
+  formed InverseAfter wi wk = wk ++ inverse G wi
 
   -- how many letters cancel in a form, between its two freely reduced words; the search counts it, and no rule speaks of it
   abbrev pub seam : Form → List A → List A → ℕ
-  seam form₁ wi wk = cancellation G wi wk
-  seam form₂ wi wk = cancellation G (inverse G wi) wk
-  seam form₃ wi wk = cancellation G wk wi
-  seam form₄ wi wk = cancellation G wk (inverse G wi)
+  seam Before wi wk = cancellation G wi wk
+  seam InverseBefore wi wk = cancellation G (inverse G wi) wk
+  seam After wi wk = cancellation G wk wi
+  seam InverseAfter wi wk = cancellation G wk (inverse G wi)
 
   -- the word that a move puts into its slot
   abbrev pub moved_word : List (List A) → Move → List A

@@ -1,14 +1,10 @@
 -- Systems of words and products over their slots. A system is a tuple of words, one for each slot, and may hold a word twice; here it is a
 -- list. A product is a finite list of factors.
-use Rattle.std.specs.Prelude.{ℕ, ◌<◌, ◌≡◌, ◌↔◌, Bool, not, ◌&&◌, List, [], ◌∷◌, ◌++◌, length, get_or, eqb}
+use Rattle.std.specs.Prelude.{ℕ, ◌<◌, ◌≡◌, ◌↔◌, not, ◌&&◌, List, [], ◌∷◌, ◌++◌, length, get_or, eqb}
 use Rattle.std.specs.Bool.{beq}
 use Rattle.words.specs.Alphabet.{Alphabet}
 use Rattle.words.specs.Words.{freely_reduce, Irreducible, signed}
-
--- one factor: a slot's word, or its inverse; "slot letter for the slot's word, capital for its inverse"
-pub record Factor : Type 0 where
-  pub slot : ℕ
-  pub inverted : Bool
+use Rattle.systems.specs.declared.Factor.{Factor}
 
 -- a factor beside its own inverse cancels, so a product is itself a word over these letters
 abbrev pub factors : Alphabet Factor

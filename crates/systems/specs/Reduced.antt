@@ -2,7 +2,8 @@
 use Rattle.std.specs.Prelude.{◌*◌, ◌+◌, ◌<◌, ◌≤◌, ℕ, List, ◌≡◌, length}
 use Rattle.words.specs.Alphabet.{Alphabet}
 use Rattle.words.specs.Words.{cancellation}
-use Rattle.systems.specs.Products.{Factor, NotBlank, factors, value}
+use Rattle.systems.specs.Products.{NotBlank, factors, value}
+use Rattle.systems.specs.declared.Factor.{Factor}
 
 module _ {A : Type 0} (G : Alphabet A) where
   -- how much two factors cancel

@@ -1,16 +1,19 @@
 -- The rules of docs/REQUIREMENTS.md, 'The moves': which move is made next, and the moves of a whole run. They are read on freely reduced words.
 -- "Only slots that are not blank take part": a blank slot neither shortens a word nor is shortened, and a half has at least one letter.
 use Rattle.std.specs.Prelude.{ℕ, zero, suc, ◌/◌, ◌%◌, Bool, false, cond, not, ◌&&◌, ◌||◌, List, [], ◌∷◌, length, take, drop, ltb, eqb}
-use Rattle.std.proofs.Math.Option.{Option, none, some}
+use Rattle.std.specs.Prelude.{None, Option, Some}
 use Rattle.words.specs.Alphabet.{Alphabet}
 use Rattle.words.specs.Words.{freely_reduce, inverse, common_prefix}
 use Rattle.systems.specs.Products.{word}
-use Rattle.systems.specs.Moves.{Form, form₁, form₂, form₃, form₄, Move, formed, made, made_all}
+use Rattle.systems.specs.Moves.{formed, made, made_all}
+use Rattle.systems.specs.declared.Form.{Form}
+use Rattle.systems.specs.declared.Move.{Move}
+use Rattle.systems.specs.declared.Form.TheVariants.{After, Before, InverseAfter, InverseBefore}
 
 -- the first found among f 0, f 1, .. below n
 abbrev pub first : {B : Type 0} → (ℕ → Option B) → ℕ → Option B
-first f zero = none
-first f (suc n) = elim (first f n) [ none ↦ f n | some b ↦ some b ]
+first f zero = None
+first f (suc n) = elim (first f n) [ None ↦ f n | Some b ↦ Some b ]
 
 -- whether a test holds at some number below n
 abbrev pub any_below : (ℕ → Bool) → ℕ → Bool
@@ -19,22 +22,22 @@ any_below f (suc n) = any_below f n || f n
 
 -- "forms 1 to 4", counted from 0
 abbrev pub form_at : ℕ → Form
-form_at zero = form₁
-form_at (suc zero) = form₂
-form_at (suc (suc zero)) = form₃
-form_at (suc (suc (suc n))) = form₄
+form_at zero = Before
+form_at (suc zero) = InverseBefore
+form_at (suc (suc zero)) = After
+form_at (suc (suc (suc n))) = InverseAfter
 
 module _ {A : Type 0} (G : Alphabet A) where
   -- "if the freely reduced result is strictly shorter than w(k)"
   abbrev pub try_form : List (List A) → ℕ → ℕ → Form → Option Move
   try_form S k i form =
       cond (ltb (length (freely_reduce G (formed G form (word G S i) (word G S k)))) (length (word G S k)))
-      (some (record { changed = k; form = form; other = i }))
-      none
+      (Some (record { changed = k; form = form; other = i }))
+      None
 
   -- "for i from the first slot up except k, for forms 1 to 4"
   abbrev pub try_other : List (List A) → ℕ → ℕ → Option Move
-  try_other S k i = cond (eqb i k) none (first (λ j. try_form S k i (form_at j)) 4)
+  try_other S k i = cond (eqb i k) None (first (λ j. try_form S k i (form_at j)) 4)
 
   abbrev pub try_changed : List (List A) → ℕ → Option Move
   try_changed S k = first (try_other S k) (length S)
@@ -74,32 +77,32 @@ module _ {A : Type 0} (G : Alphabet A) where
 
   -- "Take the shortest qualifying word, lowest slot on a tie; call its slot h." The best so far, then slot k.
   abbrev pub or_shorter : List (List A) → Option ℕ → ℕ → Option ℕ
-  or_shorter S none k = some k
-  or_shorter S (some h) k = some (cond (ltb (length (word G S k)) (length (word G S h))) k h)
+  or_shorter S None k = Some k
+  or_shorter S (Some h) k = Some (cond (ltb (length (word G S k)) (length (word G S h))) k h)
 
   abbrev pub shortest_below : List (List A) → ℕ → Option ℕ
-  shortest_below S zero = none
+  shortest_below S zero = None
   shortest_below S (suc n) = let best = shortest_below S n in cond (qualifies S n) (or_shorter S best n) best
 
   -- "if w(k) ends with E2, make form 4 with i = h; otherwise, if w(k) begins with the inverse of E2, make form 1 with i = h"
   abbrev pub try_half : List (List A) → ℕ → ℕ → Option Move
   try_half S h k =
-      cond (eqb k h) none
-      (cond (ends (second_half (word G S h)) (word G S k)) (some (record { changed = k; form = form₄; other = h }))
-      (cond (begins (inverse G (second_half (word G S h))) (word G S k)) (some (record { changed = k; form = form₁; other = h })) none))
+      cond (eqb k h) None
+      (cond (ends (second_half (word G S h)) (word G S k)) (Some (record { changed = k; form = InverseAfter; other = h }))
+      (cond (begins (inverse G (second_half (word G S h))) (word G S k)) (Some (record { changed = k; form = Before; other = h })) None))
 
   -- "For k from the first slot up except h"; "Make only the first such move"
   unfoldable pub half_end : List (List A) → Option Move
-  half_end S = elim (shortest_below S (length S)) [ none ↦ none | some h ↦ first (try_half S h) (length S) ]
+  half_end S = elim (shortest_below S (length S)) [ None ↦ None | Some h ↦ first (try_half S h) (length S) ]
 
   -- the next move: "Half-end move, only when nothing shortens"
   unfoldable pub next : List (List A) → Option Move
-  next S = elim (shortening S) [ none ↦ half_end S | some m ↦ some m ]
+  next S = elim (shortening S) [ None ↦ half_end S | Some m ↦ Some m ]
 
   -- the moves of a run, at most n of them: "repeat until neither rule applies"
   abbrev pub moves_within : ℕ → List (List A) → List Move
   moves_within zero S = []
-  moves_within (suc n) S = elim (next S) [ none ↦ [] | some m ↦ m ∷ moves_within n (made G S m) ]
+  moves_within (suc n) S = elim (next S) [ None ↦ [] | Some m ↦ m ∷ moves_within n (made G S m) ]
 
   -- what those moves leave
   abbrev pub run_within : ℕ → List (List A) → List (List A)

@@ -1,2 +1,91 @@
-// Systems of words: definitions and theorems on products, moves and Nielsen-reduced systems. It holds no code of its own.
+// Systems of words: definitions and theorems on products, moves and Nielsen-reduced systems, and the factors and moves that they speak of.
 #![tactic(auto)]
+
+ghost use Rattle.std.specs.Prelude.{◌≡◌};
+ghost use Rattle.systems.specs.Moves.{form_digit, undo, undoing};
+ghost use Rattle.systems.specs.Rules.{form_at};
+
+// A factor of a product: the word of a slot, or its inverse.
+#[derive(Clone, Copy, Debug, PartialEq, Eq)]
+pub struct Factor {
+    pub slot: usize,
+    pub inverted: bool,
+}
+
+// The four forms of a move, 1 to 4: the other slot's word, or its inverse, stands before the changed slot's word or after it.
+#[derive(Clone, Copy, Debug, PartialEq, Eq)]
+pub enum Form {
+    Before,
+    InverseBefore,
+    After,
+    InverseAfter,
+}
+
+// A move: the changed slot, the form and the other slot.
+#[derive(Clone, Copy, Debug, PartialEq, Eq)]
+pub struct Move {
+    pub changed: usize,
+    pub form: Form,
+    pub other: usize,
+}
+
+impl Form {
+    // The forms in their order.
+    pub const ALL: [Form; 4] = [
+        Form::Before,
+        Form::InverseBefore,
+        Form::After,
+        Form::InverseAfter,
+    ];
+
+    // The form at a place in their order, counted from 0.
+    pub fn at(place: usize) -> Form
+        ensures { result ≡ form_at place }
+    {
+        match place {
+            0 => Form::Before,
+            1 => Form::InverseBefore,
+            2 => Form::After,
+            _ => Form::InverseAfter,
+        }
+    }
+
+    // The form that takes a move of this form back.
+    pub fn undoing(self) -> Form
+        ensures { result ≡ undoing self }
+    {
+        match self {
+            Form::Before => Form::InverseBefore,
+            Form::InverseBefore => Form::Before,
+            Form::After => Form::InverseAfter,
+            Form::InverseAfter => Form::After,
+        }
+    }
+}
+
+impl Move {
+    // The move that takes this one back.
+    pub fn undo(self) -> Move
+        ensures { result ≡ undo self }
+    {
+        Move {
+            changed: self.changed,
+            form: self.form.undoing(),
+            other: self.other,
+        }
+    }
+}
+
+// The digit of a form.
+impl From<Form> for u8 {
+    ghost from_gives = { λ form digit. digit ≡ form_digit form };
+
+    fn from(form: Form) -> u8 {
+        match form {
+            Form::Before => b'1',
+            Form::InverseBefore => b'2',
+            Form::After => b'3',
+            Form::InverseAfter => b'4',
+        }
+    }
+}

@@ -9,8 +9,6 @@ use Rattle.words.specs.Buffers.{written}
 use Rattle.words.proofs.Buffers.{front_part}
 use Rattle.records.specs.Records.{word_of}
 use Rattle.records.specs.Refusals.{target_rules}
-use Rattle.records.specs.declared.answers.Checked.{Checked}
-use Rattle.records.specs.declared.answers.Checked.TheVariants.{Failed, Fine}
 use Rattle.records.specs.declared.answers.Refusal.{Refusal}
 use Rattle.records.proofs.Chains.{fine_first, fine_next}
 use Rattle.records.proofs.Targets.{target-sized}
@@ -19,12 +17,14 @@ use Rattle.slots.proofs.Systems.{room_enough}
 use Rattle.syntax.specs.WordTexts.{text_of}
 use Rattle.text.specs.Write.{write_answer, write_rules, writing_of}
 use Rattle.text.specs.declared.Writing.{Writing}
+use Rattle.std.specs.Prelude.{Err, Ok}
+use Rattle.records.specs.Refusals.{Checked}
 
 module _ (word text : List ℕ) {x : Checked} (tests : x ≡ write_rules word (length text)) where
-  pub answer-refused : {f : Refusal} {answer : Writing} → x ≡ Failed f → answer ≡ writing_of x 0 → answer ≡ write_answer word text
+  pub answer-refused : {f : Refusal} {answer : Writing} → x ≡ Err f → answer ≡ writing_of x 0 → answer ≡ write_answer word text
   answer-refused e told = told ∙ rw (sym tests ∙ e, e)
 
-  module _ (passed : x ≡ Fine) where
+  module _ (passed : x ≡ Ok tt) where
     pub passed_word : length word ≡ 64
     unfolding write_rules
     passed_word = target-sized word (fine_first (target_rules word) (word_room 256 (length text)) (sym tests ∙ passed))

@@ -16,8 +16,6 @@ use Rattle.words.proofs.FreeReduction.{freely_reduce-same}
 use Rattle.records.specs.Answers.{answer_of}
 use Rattle.records.specs.Records.{record_of, word_of}
 use Rattle.records.specs.Refusals.{as_six, must, record_rules, refusal, target_rules}
-use Rattle.records.specs.declared.answers.Checked.{Checked}
-use Rattle.records.specs.declared.answers.Checked.TheVariants.{Failed, Fine}
 use Rattle.records.specs.declared.answers.Verdict.TheVariants.{Done}
 use Rattle.records.proofs.ByNumber.{Never, fine_never, must-given, must_never, never_then, other_never, then_first, then_next}
 use Rattle.records.proofs.Chains.{fine_first, fine_next}
@@ -34,29 +32,34 @@ use Rattle.text.specs.declared.Writing.{Writing}
 use Rattle.text.specs.Read.{read_answer, read_buffer, read_rules}
 use Rattle.text.specs.ReadBack.{ReadBack}
 use Rattle.text.proofs.ReadMeaning.{buffer_done, fits_all, rules_done, through, verdict_done, verdict_refused}
+use Rattle.records.specs.declared.refusals.Reason.TheVariants.{TargetOrProductMalformed, WordsBufferShort}
+use Rattle.std.specs.Prelude.{Err, Ok}
+use Rattle.records.specs.Refusals.{Checked}
+use Rattle.records.specs.declared.refusals.Reason.{Reason}
+use Rattle.records.specs.Reasons.{number_of}
 
 writing_verdict : (c : Checked) (n : ℕ) → (writing_of c n).verdict ≡ (answer_of c).verdict
-writing_verdict Fine n = refl
-writing_verdict (Failed f) n = refl
+writing_verdict (Ok _) n = refl
+writing_verdict (Err f) n = refl
 
 text_runs : (w : List ℕ) → text_of w ≡ runs_text (runs w)
 unfolding text_of
 text_runs w = refl
 
 -- refusal 6 is given for a record that is refused
-six_fine : (c : Checked) → as_six c ≡ Fine → c ≡ Fine
-six_fine Fine e = refl
-six_fine (Failed f) e = absurd (fine_never 6 f.place (sym e))
+six_fine : (c : Checked) → as_six c ≡ Ok tt → c ≡ Ok tt
+six_fine (Ok _) e = refl
+six_fine (Err f) e = absurd (fine_never TargetOrProductMalformed f.place (sym e))
 
-six_never : (n : ℕ) → (6 ≡ n → ⊥) → (c : Checked) → Never n (as_six c)
-six_never n h Fine = fine_never n
-six_never n h (Failed f) = other_never n 6 f.place h
+six_never : (n : Reason) → (6 ≡ number_of n → ⊥) → (c : Checked) → Never n (as_six c)
+six_never n h (Ok _) = fine_never n
+six_never n h (Err f) = other_never n TargetOrProductMalformed f.place h
 
-target_never : (r : List ℕ) → Never 10 (target_rules r)
+target_never : (r : List ℕ) → Never WordsBufferShort (target_rules r)
 unfolding target_rules
 target_never r =
-    never_then 10 (must (eqb (length r) 64) 6 0) (as_six (record_rules r 0)) (must_never (eqb (length r) 64) 10 6 0 (λ e. absurd (omega arith)))
-    (six_never 10 (λ e. absurd (omega arith)) (record_rules r 0))
+    never_then WordsBufferShort (must (eqb (length r) 64) TargetOrProductMalformed 0) (as_six (record_rules r 0)) (must_never (eqb (length r) 64) WordsBufferShort TargetOrProductMalformed 0 (λ e. absurd (omega arith)))
+    (six_never WordsBufferShort (λ e. absurd (omega arith)) (record_rules r 0))
 
 module _ (word text : List ℕ) where
   abbrev tests : Checked
@@ -65,7 +68,7 @@ module _ (word text : List ℕ) where
   abbrev spelling : List ℕ
   spelling = text_of (word_of word)
 
-  write_done : (tests ≡ Fine) ↔ ((target_rules word ≡ Fine) × (256 ≤ length text))
+  write_done : (tests ≡ Ok tt) ↔ ((target_rules word ≡ Ok tt) × (256 ≤ length text))
   unfolding write_rules
   write_done =
       let room : Checked = word_room 256 (length text) in (
@@ -73,25 +76,25 @@ module _ (word text : List ℕ) where
         λ x. rw x.0 (room_fits 256 (length text) x.1),
       )
 
-  write_6 : (k : ℕ) → (tests ≡ refusal 6 k) ↔ (target_rules word ≡ refusal 6 k)
+  write_6 : (k : ℕ) → (tests ≡ refusal TargetOrProductMalformed k) ↔ (target_rules word ≡ refusal TargetOrProductMalformed k)
   unfolding write_rules word_room
-  write_6 k = then_first 6 (target_rules word) (word_room 256 (length text)) k (must_never (leb 256 (length text)) 6 10 0 (λ e. absurd (omega arith)))
+  write_6 k = then_first TargetOrProductMalformed (target_rules word) (word_room 256 (length text)) k (must_never (leb 256 (length text)) TargetOrProductMalformed WordsBufferShort 0 (λ e. absurd (omega arith)))
 
-  write_10 : (tests ≡ refusal 10 0) ↔ ((target_rules word ≡ Fine) × (length text < 256))
+  write_10 : (tests ≡ refusal WordsBufferShort 0) ↔ ((target_rules word ≡ Ok tt) × (length text < 256))
   unfolding write_rules word_room
   write_10 =
-      let (to, from) = then_next 10 (target_rules word) (word_room 256 (length text)) 0 (target_never word) in
-      let (is-short, of-short) = must-given (leb 256 (length text)) 10 0 0 in (
+      let (to, from) = then_next WordsBufferShort (target_rules word) (word_room 256 (length text)) 0 (target_never word) in
+      let (is-short, of-short) = must-given (leb 256 (length text)) WordsBufferShort 0 0 in (
         λ e. ((to e).0, leb-false 256 (length text) (is-short (to e).1).0),
         λ x. from (x.0, of-short (lt-leb 256 (length text) x.1, refl)),
       )
 
-  module _ (done : tests ≡ Fine) where
+  module _ (done : tests ≡ Ok tt) where
     letters : AllLetters (word_of word)
     unfolding target_rules
     letters =
         record_letters word 0
-        (six_fine (record_rules word 0) (fine_next (must (eqb (length word) 64) 6 0) (as_six (record_rules word 0)) (write_done.0 done).0))
+        (six_fine (record_rules word 0) (fine_next (must (eqb (length word) 64) TargetOrProductMalformed 0) (as_six (record_rules word 0)) (write_done.0 done).0))
 
     told : TextFor (word_of word)
     told = text_for (word_of word) letters (word-short word)
@@ -99,7 +102,7 @@ module _ (word text : List ℕ) where
     text_accepted : (buffer : List ℕ) → 64 ≤ length buffer → Accepted spelling buffer
     text_accepted buffer h = record { tree = told.tree; allowed = told.allowed; room = h; short = (fits_all told.tree).0 told.measured }
 
-    text_taken : (buffer : List ℕ) → 64 ≤ length buffer → read_rules spelling (length buffer) ≡ Fine
+    text_taken : (buffer : List ℕ) → 64 ≤ length buffer → read_rules spelling (length buffer) ≡ Ok tt
     text_taken buffer h = (rules_done spelling buffer).1 (text_accepted buffer h)
 
     text_back : (buffer : List ℕ) → 64 ≤ length buffer → read_buffer spelling buffer ≡ written (record_of (freely_reduce bytes (word_of word))) buffer
@@ -113,11 +116,11 @@ module _ (word text : List ℕ) where
   abbrev after : List ℕ
   after = write_buffer word text
 
-  is_done_lem : answer.verdict ≡ Done → tests ≡ Fine
+  is_done_lem : answer.verdict ≡ Done → tests ≡ Ok tt
   is_done_lem e = (verdict_done tests).0 (sym (writing_verdict tests (length spelling)) ∙ e)
 
   -- where nothing is refused
-  module _ (e : tests ≡ Fine) where
+  module _ (e : tests ≡ Ok tt) where
     after_is : after ≡ written spelling text
     after_is = rw e
 
@@ -127,13 +130,13 @@ module _ (word text : List ℕ) where
     front_is : take answer.length after ≡ spelling
     front_is = rw (length_is, after_is) (written-take spelling text (length spelling) refl)
 
-  refused_all : (c : Checked) → tests ≡ c → (c ≡ Fine → ⊥) → (after ≡ text) × (answer.length ≡ 0)
-  refused_all Fine e n = absurd (n refl)
-  refused_all (Failed f) e n = rw e (refl, refl)
+  refused_all : (c : Checked) → tests ≡ c → (c ≡ Ok tt → ⊥) → (after ≡ text) × (answer.length ≡ 0)
+  refused_all (Ok _) e n = absurd (n refl)
+  refused_all (Err f) e n = rw e (refl, refl)
 
   size-within : (c : Checked) → tests ≡ c → answer.length ≤ 125
-  size-within Fine e = rw e (told e).size
-  size-within (Failed f) e = rw e (omega arith)
+  size-within (Ok _) e = rw e (told e).size
+  size-within (Err f) e = rw e (omega arith)
 
   means : WriteMeans word text answer after
   means =
@@ -153,8 +156,8 @@ module _ (word text : List ℕ) where
         same_word = λ z tree s.
             let t = told (is_done_lem z) in
             ap tree_word (one-tree spelling tree t.tree (rw (front_is (is_done_lem z)) at s) t.allowed.spells) ∙ t.word;
-        malformed = λ k. rw v (through (verdict_refused tests 6 k) (write_6 k));
-        no_room = rw v (through (verdict_refused tests 10 0) write_10);
+        malformed = λ k. rw v (through (verdict_refused tests TargetOrProductMalformed k) (write_6 k));
+        no_room = rw v (through (verdict_refused tests WordsBufferShort 0) write_10);
         unchanged = λ n. refused_all tests refl (λ e. n (v ∙ (verdict_done tests).1 e));
       }
 

@@ -7,11 +7,12 @@ use Rattle.records.specs.Answers.{answer_of, on_fine}
 use Rattle.records.specs.Records.{record_of}
 use Rattle.records.specs.Refusals.{◌and_then◌, must}
 use Rattle.records.specs.declared.answers.Answer.{Answer}
-use Rattle.records.specs.declared.answers.Checked.{Checked}
 use Rattle.slots.specs.Refusals.{word_room}
 use Rattle.syntax.specs.TreeWords.{tree_word}
 use Rattle.syntax.specs.Parse.{tree_of}
 use Rattle.syntax.specs.Rules.{fits, text_rules}
+use Rattle.records.specs.declared.refusals.Reason.TheVariants.{WordTooLong}
+use Rattle.records.specs.Refusals.{Checked}
 
 -- the freely reduced word of a text
 unfoldable pub text_word : List ℕ → List ℕ
@@ -23,7 +24,7 @@ read_tests text room = text_rules text and_then word_room 64 room
 
 -- and then 12
 unfoldable pub read_rules : List ℕ → ℕ → Checked
-read_rules text room = read_tests text room and_then must (fits (tree_of text)) 12 0
+read_rules text room = read_tests text room and_then must (fits (tree_of text)) WordTooLong 0
 
 abbrev pub read_answer : List ℕ → List ℕ → Answer
 read_answer text word = answer_of (read_rules text (length word))

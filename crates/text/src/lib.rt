@@ -8,9 +8,9 @@ ghost use Rattle.text.specs.ReadBack.{ReadBack};
 ghost use Rattle.text.specs.Write.{write_answer, write_buffer, write_rules, writing_of};
 
 use parsing::product;
-use records::answers::{Answer, Checked, Verdict, answer_of, check_that};
+use records::answers::{Answer, Refusal, Verdict, answer_of, check_that};
 use records::record::{RECORD, check_target, word_length, write_record};
-use records::refusals::WORD_TOO_LONG;
+use records::refusals::Reason;
 use scanning::checks::{DEEPEST, check_text};
 use slots::checks::check_room;
 use writing::write_word;
@@ -36,19 +36,19 @@ pub fn read(text: &[u8], word: &mut [u8]) -> Answer
 }
 
 // Reads a text into the lent buffer where nothing is refused.
-fn read_checked(text: &[u8], word: &mut [u8]) -> Checked
+fn read_checked(text: &[u8], word: &mut [u8]) -> Result<(), Refusal>
     ensures checked { result ≡ read_rules text.now (length word.old) }
     ensures word { word.new ≡ read_buffer text.now word.old }
 {
     let checked = check_read(text, word.len());
-    let Checked::Fine = checked else {
+    let Ok(()) = checked else {
         return checked;
     };
     let found = product(text, DEEPEST);
     let letters = found.word.letters;
     let count = found.word.length;
-    let fitted = check_that(count <= 63, WORD_TOO_LONG, 0);
-    let Checked::Fine = fitted else {
+    let fitted = check_that(count <= 63, Reason::WordTooLong, 0);
+    let Ok(()) = fitted else {
         return fitted;
     };
     write_record(&letters[0..count], &mut word[0..64]);
@@ -56,11 +56,11 @@ fn read_checked(text: &[u8], word: &mut [u8]) -> Checked
 }
 
 // Refusals 16, 17, 18 and 10.
-fn check_read(text: &[u8], room: usize) -> Checked
+fn check_read(text: &[u8], room: usize) -> Result<(), Refusal>
     ensures { result ≡ read_tests text.now room }
 {
     let checked = check_text(text);
-    let Checked::Fine = checked else {
+    let Ok(()) = checked else {
         return checked;
     };
     check_room(RECORD, room)
@@ -82,7 +82,7 @@ fn write_checked(word: &[u8], text: &mut [u8]) -> Writing
     ensures text { text.new ≡ write_buffer word.now text.old }
 {
     let checked = check_write(word, text.len());
-    let Checked::Fine = checked else {
+    let Ok(()) = checked else {
         return writing_of(checked, 0);
     };
     let count = word_length(word);
@@ -91,26 +91,26 @@ fn write_checked(word: &[u8], text: &mut [u8]) -> Writing
 }
 
 // Refusals 6 and 10.
-fn check_write(word: &[u8], room: usize) -> Checked
+fn check_write(word: &[u8], room: usize) -> Result<(), Refusal>
     ensures { result ≡ write_rules word.now room }
 {
     let targeted = check_target(word);
-    let Checked::Fine = targeted else {
+    let Ok(()) = targeted else {
         return targeted;
     };
     check_room(TEXT_ROOM, room)
 }
 
 // The answer of write, from what its tests found and the length of the text.
-fn writing_of(checked: Checked, length: usize) -> Writing
+fn writing_of(checked: Result<(), Refusal>, length: usize) -> Writing
     ensures { result ≡ writing_of checked length }
 {
     match checked {
-        Checked::Fine => Writing {
+        Ok(()) => Writing {
             verdict: Verdict::Done,
             length,
         },
-        Checked::Failed(refusal) => Writing {
+        Err(refusal) => Writing {
             verdict: Verdict::Refused(refusal),
             length: 0,
         },

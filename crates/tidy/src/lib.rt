@@ -4,7 +4,7 @@
 ghost use Rattle.std.specs.Prelude.{◌≡◌};
 ghost use Rattle.tidy.specs.Tidy.{tidy_answer, tidy_buffer};
 
-use records::answers::{Answer, Checked, answer_of};
+use records::answers::{Answer, answer_of};
 use records::record::RECORD;
 use slots::checks::check_system_room;
 use slots::held::{load, store};
@@ -15,7 +15,7 @@ pub fn tidy(system: &[u8], words: &mut [u8]) -> Answer
     ensures words { words.new ≡ tidy_buffer system.now words.old }
 {
     let checked = check_system_room(system, words.len());
-    let Checked::Fine = checked else {
+    let Ok(()) = checked else {
         return answer_of(checked);
     };
     let mut letters = [0u8; 1024];

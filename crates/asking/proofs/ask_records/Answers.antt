@@ -23,12 +23,12 @@ pub returns-in_default-ready-clause-product : goal.returns-in_default-ready-clau
 returns-in_default-ready-clause-product c = search (unchanged, then_fine, ready_told, rules)
 
 pub ask_held-verdict-requires-clause-sizes : goal.ask_held-verdict-requires-clause-sizes
-ask_held-verdict-requires-clause-sizes c = (search (question_target, rules), ready_room _ _ c.check_ready-ready.ensures c.in-Fine-ready.is)
+ask_held-verdict-requires-clause-sizes c = (search (question_target, rules), ready_room _ _ c.check_ready-ready.ensures c.in-Ok-ready.is)
 
 pub returns-clause-answer : goal.returns-clause-answer
 returns-clause-answer c =
-    let ready = then_fine _ _ c.check_question-checked.ensures c.in-Fine.is (ready_told _ _ _ c.load.ensures.words c.check_ready-ready.ensures) in
-    asked-given _ _ ready c.in-Fine-ready.is (verdict_held _ c.load.new.letters c.load.new.lengths _ (slots c.args.system.now) c.load.ensures.words c.ask_held-verdict.ensures.verdict)
+    let ready = then_fine _ _ c.check_question-checked.ensures c.in-Ok.is (ready_told _ _ _ c.load.ensures.words c.check_ready-ready.ensures) in
+    asked-given _ _ ready c.in-Ok-ready.is (verdict_held _ c.load.new.letters c.load.new.lengths _ (slots c.args.system.now) c.load.ensures.words c.ask_held-verdict.ensures.verdict)
 
 pub returns-clause-product : goal.returns-clause-product
 returns-clause-product c = search (changed, then_fine, ready_told, product-held, rules)

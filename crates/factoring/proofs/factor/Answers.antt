@@ -3,10 +3,15 @@
 use borrow.Author.Rules.{rules}
 use Rattle.factoring.proofs.Factoring.{lead_below_lem, lead_slot, left_begin, left_spent, left_stuck, left_leads, left_more, left_end, left_freely_reduced}
 use Rattle.factoring.proofs.factor.Goals as goal
-use Rattle.factoring.proofs.factor.Goals.{else-loop-size-test, then-loop-size-test+then-count-eq63, then-loop-size-test+else-count-eq63+in_default}
 
 pub loop-size-init : goal.loop-size-init
 loop-size-init c = search (left_begin, rules)
+
+pub returns-then-count-eq63-clause-letters : goal.returns-then-count-eq63-clause-letters
+returns-then-count-eq63-clause-letters c = search (left_spent, rules)
+
+pub returns-in_err-x-clause-letters : goal.returns-in_err-x-clause-letters
+returns-in_err-x-clause-letters c = search (left_stuck, rules)
 
 pub take_off-size-requires-clause-inside : goal.take_off-size-requires-clause-inside
 take_off-size-requires-clause-inside c = (search (lead_below_lem, rules), search rules, search rules)
@@ -21,11 +26,16 @@ pub factor_byte-requires : goal.factor_byte-requires
 factor_byte-requires c = search (lead_slot, rules)
 
 pub loop-size-preserved : goal.loop-size-preserved
-loop-size-preserved c = (search rules, search rules, search rules, search rules, search (left_more, rules))
+loop-size-preserved c =
+    let (short, most, sized, long, here) = c.loop-size.invariant in
+    (
+      search rules,
+      search rules,
+      search rules,
+      search rules,
+      left_more _ _ _ _ _ _ here c.loop-size-test.true short sized _ c.leading_factor.ensures.found c.in_ok-x.was _ _ _ c.if-count-eq63.false most long
+          c.take_off-size.ensures.word c.factor_byte.ensures,
+    )
 
 pub returns-clause-letters : goal.returns-clause-letters
-returns-clause-letters c = elim c.loop-size-test.branch [
-  | else-loop-size-test w ↦ search (left_end, rules)
-  | then-loop-size-test+then-count-eq63 w ↦ search (left_spent, rules)
-  | then-loop-size-test+else-count-eq63+in_default w ↦ search (left_stuck, rules)
-]
+returns-clause-letters c = search (left_end, rules)

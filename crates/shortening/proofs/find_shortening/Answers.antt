@@ -82,7 +82,7 @@ pub returns-then-size-c : goal.returns-then-size-c
 returns-then-size-c c =
     let tried = c.loop-form.invariant in
     record {
-      found = forms_found _ _ _ _ _ _ _ _ _ _ _ tried.0 _ _ c.seam_of-c.ensures.seam tried.2 c.loop-form-test.true c.if-size-c.true;
-      below = forms_below _ _ _ _ _ _ _ _ _ _ _ tried.0 c.loop-form-test.true;
+      found = forms_found _ _ _ _ _ _ _ _ _ _ _ tried.0 _ _ c.seam_of-c.ensures.seam tried.2 c.at.ensures c.loop-form-test.true c.if-size-c.true;
+      below = forms_below _ _ _ _ _ _ _ _ _ _ _ tried.0;
       marked = tried.0.others.changed.ready.marked;
     }

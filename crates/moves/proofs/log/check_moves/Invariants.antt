@@ -1,12 +1,12 @@
 use Prim.Native.Nat.{◌-◌, ◌≤◌}
 use mathlib.Core.Path.{◌≡◌}
 use Rattle.records.specs.Refusals.{each_below}
-use Rattle.records.specs.declared.answers.Checked.TheVariants.{Fine}
 use Rattle.moves.specs.Logs.{move_rule}
 use Rattle.moves.proofs.log.check_moves.Given as goal
+use Rattle.std.specs.Prelude.{Ok}
 
 abbrev pub invariant-loop-j : goal.invariant-loop-j
-invariant-loop-j l = (l.j ≤ l.m) × (each_below (move_rule l.n l.log) l.j ≡ Fine)
+invariant-loop-j l = (l.j ≤ l.m) × (each_below (move_rule l.n l.log) l.j ≡ Ok tt)
 
 abbrev pub decreases-loop-j : goal.decreases-loop-j
 decreases-loop-j l = l.m - l.j

@@ -1,8 +1,8 @@
 -- `reduction::test::untested` meets its contract.
 use Rattle.reduction.proofs.test.untested.Goals as goal
 
-pub returns-in-Fine : goal.returns-in-Fine
-returns-in-Fine c = cc
+pub returns-in-Ok : goal.returns-in-Ok
+returns-in-Ok c = cc
 
-pub returns-in-Failed : goal.returns-in-Failed
-returns-in-Failed c = cc
+pub returns-in-Err : goal.returns-in-Err
+returns-in-Err c = cc
