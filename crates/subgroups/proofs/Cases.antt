@@ -8,7 +8,7 @@ use Rattle.input.specs.Input.{Holds, ReadInput}
 use Rattle.output.specs.Meaning.{PrintMeans}
 use Rattle.output.specs.Output.{program_output}
 use Rattle.printing.specs.declared.answers.Printed.{Printed}
-use Rattle.printing.specs.declared.answers.Printed.TheVariants.{Whole}
+use Rattle.printing.specs.declared.answers.Printed.TheVariants.{Missing, Short, Whole}
 
 module _ (kept out : List ℕ) (size : ℕ) {printed : Printed} {out' : List ℕ}
     (means : (input : List ℕ) → Holds input kept size → 1088 ≤ length kept → 66704 ≤ length out → PrintMeans input out printed out')
@@ -21,3 +21,9 @@ module _ (kept out : List ℕ) (size : ℕ) {printed : Printed} {out' : List ℕ
       let told = is_whole in
       let same : n ≡ length (program_output read.input) = cc in
       rw same (means read.input read.holds (omega arith) (omega arith)).most
+
+  pub never_short : {n : ℕ} → printed ≡ Short n → ⊥
+  never_short e = let told = is_whole in cc
+
+  pub never_missing : printed ≡ Missing → ⊥
+  never_missing e = let told = is_whole in cc

@@ -5,23 +5,24 @@
 mod reading;
 
 use crate::reading::read_input;
-use input::LONGEST;
+use input::{Kept, LONGEST};
 use output::print;
 use printing::answers::{OUTPUT, Printed};
 use std::io;
-use std::io::Write;
 
 fn main(rt: HostRuntime) -> io::Result<()> {
-    let mut kept = [0u8; LONGEST];
-    let found = read_input(&mut rt.stdin(), &mut kept);
-    if found.failed {
+    let mut bytes = [0u8; LONGEST];
+    let mut kept = Kept {
+        bytes: &mut bytes,
+        size: 0,
+    };
+    if read_input(&mut rt.stdin(), &mut kept).is_err() {
         return rt.eprintln("subgroups: standard input cannot be read");
     }
+    let Kept { bytes, size } = kept;
     let mut out = [0u8; OUTPUT];
-    let size = found.size;
-    let printed = print(&kept, size, &mut out);
-    match printed {
-        Printed::Whole(n) => write_output(&rt, &out[0..n]),
+    match print(bytes, size, &mut out) {
+        Printed::Whole(n) => write_output(&rt, &out[..n]),
         Printed::Short(_) => unreachable!(),
         Printed::Missing => unreachable!(),
     }
@@ -29,8 +30,7 @@ fn main(rt: HostRuntime) -> io::Result<()> {
 
 // Writes the output to standard output, or tells on standard error that it cannot be written.
 fn write_output(rt: &(impl Print + Eprint), bytes: &[u8]) -> io::Result<()> {
-    let written = io::writer(rt).write_all(bytes);
-    if written.is_err() {
+    if rt.write_all(bytes).is_err() {
         return rt.eprintln("subgroups: standard output cannot be written");
     }
     Ok(())
