@@ -5,7 +5,7 @@ use mathlib.Core.List.{List, [], ◌++◌, append-nil, append_assoc}
 use mathlib.Core.Path.{◌∙◌, ◌≡◌, ap}
 use Rattle.std.specs.Io.KnownBytes.{Consumes, IsAtEnd}
 use Rattle.std.proofs.KnownBytes.{Consumes-nil, Consumes-trans}
-use Rattle.input.specs.Input.{Holds}
+use Rattle.input.specs.Input.{Holds, ReadInput}
 
 -- these bytes were taken, and what is kept and counted afterwards holds them too
 pub record Taken (left left' : Option (List ℕ)) (kept : List ℕ) (size : ℕ) (kept' : List ℕ) (size' : ℕ) : Type 0 where
@@ -37,3 +37,8 @@ all_taken {left = Some rest} {left' = None} taken end = absurd taken.consumed
 all_taken {left = Some rest} {left' = Some over} {kept = kept} {kept' = kept'} {size = size} {size' = size'} taken end =
     let same : rest ≡ taken.bytes = taken.consumed ∙ ap (λ (l : List ℕ). taken.bytes ++ l) end ∙ append-nil taken.bytes in
     λ before holds. rw same (taken.held before holds)
+
+-- in any case what is kept and counted tells of some input, if it did before
+pub still_input : {left left' : Option (List ℕ)} {kept kept' : List ℕ} {size size' : ℕ} → Taken left left' kept size kept' size' → ReadInput kept size
+    → ReadInput kept' size'
+still_input taken read = record { input = read.input ++ taken.bytes; holds = taken.held read.input read.holds }
