@@ -6,18 +6,18 @@ use mathlib.Core.Path.{◌∙◌, ◌≡◌, ap, refl, sym}
 use native.Mathlib.Omega.{arith}
 use lib.Dec.{leb}
 use lib.ListN.{drop, get_or, length, length-append, length-take, take, take-append-drop}
-use lib.Seq.{get_or-append-add, get_or-take, take_all, take-append_seam, length-take-le}
+use lib.Seq.{get_or-append-add, get_or-take, take-append_seam, length-take-le}
 use borrow.Author.Tests.{le-leb, leb-false, leb-true, lt-leb}
 use Rattle.words.specs.Buffers.{written}
 use Rattle.systems.proofs.Logic.{bool_cases}
 use Rattle.input.specs.Input.{CountOf, Holds, ReadInput, counted, kept_after}
 
 -- a length as it is counted
-pub counted_exact : (n : ℕ) → n ≤ 1088 → n ≡ counted n
+counted_exact : (n : ℕ) → n ≤ 1088 → n ≡ counted n
 unfolding counted
 counted_exact n h = rw (le-leb n 1088 h) refl
 
-pub counted_long : (n : ℕ) → 1088 < n → 1152 + n % 64 ≡ counted n
+counted_long : (n : ℕ) → 1088 < n → 1152 + n % 64 ≡ counted n
 unfolding counted
 counted_long n h = rw (lt-leb n 1088 h) refl
 
@@ -67,18 +67,9 @@ get_or-rest p q i h =
     let there : length p + (i - length p) ≡ i = omega arith in
     ap (λ (k : ℕ). get_or (p ++ q) k 0) (sym there) ∙ get_or-append-add p q (i - length p) 0
 
-take_min : (m : ℕ) (l : List ℕ) → take (min m (length l)) l ≡ take m l
-take_min m l =
-    elim (bool_cases (leb m (length l))) [
-      | inl h ↦ let inside : m ≤ length l = leb-true m (length l) h in let same : min m (length l) ≡ m = omega arith in ap (λ (k : ℕ). take k l) same
-      | inr h ↦
-          let beyond : length l < m = leb-false m (length l) h in
-          take_all (min m (length l)) l (omega arith) ∙ sym (take_all m l (omega arith))
-    ]
-
 -- where there is no more room, nothing is kept
 module _ (next kept : List ℕ) (size : ℕ) where
-  pub kept_full : (room : ℕ) → room ≡ min 1088 (length kept) → room ≤ size → kept ≡ kept_after next kept size
+  kept_full : (room : ℕ) → room ≡ min 1088 (length kept) → room ≤ size → kept ≡ kept_after next kept size
   kept_full room r h =
       let None : min 1088 (length kept) - size ≡ 0 = omega arith in
       rw None (sym (take-append-drop size kept))
@@ -97,13 +88,6 @@ module _ (next kept : List ℕ) (size : ℕ) where
       ∙ ap (λ (k : ℕ). get_or (written more (drop size kept)) (i - k) 0) front
       ∙ get_or-front more _ (i - size) there
       ∙ get_or-take (min 1088 (length kept) - size) next (i - size) 0 (omega arith)
-
-  -- a part of the next bytes that is as long as there is room
-  pub kept_part : (room n : ℕ) {out : List ℕ} → room ≡ min 1088 (length kept) → n ≡ min (room - size) (length next)
-      → out ≡ take size kept ++ written (take (n - 0) next) (drop size kept) → out ≡ kept_after next kept size
-  kept_part room n r e h =
-      let same : n - 0 ≡ min (min 1088 (length kept) - size) (length next) = omega arith in
-      h ∙ ap (λ (l : List ℕ). take size kept ++ written l (drop size kept)) (ap (λ (k : ℕ). take k next) same ∙ take_min _ next)
 
 -- what is known of an input stays known when more of it comes
 module _ (next kept : List ℕ) (size : ℕ) (input : List ℕ) (before : Holds input kept size) where

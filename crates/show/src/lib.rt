@@ -10,27 +10,20 @@ use records::record::{RECORD, STOP};
 pub fn show<'a>(reduced: &'a [u8], given: &'a [u8], slot: u8) -> &'a [u8]
     ensures { result.now ≡ shown reduced.now given.now slot }
 {
-    if reduced.len() != given.len() {
-        return &reduced[0..0];
+    let nothing = &reduced[..0];
+    if reduced.len() != given.len() || reduced.len() % RECORD != 0 {
+        return nothing;
     }
-    if reduced.len() % RECORD != 0 {
-        return &reduced[0..0];
+    if slot < b'a' || slot > b'p' {
+        return nothing;
     }
-    if slot < 97 {
-        return &reduced[0..0];
+    let at = (slot - b'a') as usize * RECORD;
+    let Some(record) = reduced.get(at..at + RECORD) else {
+        return nothing;
+    };
+    if record[0] == STOP {
+        &given[at..at + RECORD]
+    } else {
+        record
     }
-    if slot > 112 {
-        return &reduced[0..0];
-    }
-    let k = slot as usize - 97;
-    let n = reduced.len() / RECORD;
-    if n <= k {
-        return &reduced[0..0];
-    }
-    let at = k * RECORD;
-    let end = at + RECORD;
-    if reduced[at] == STOP {
-        return &given[at..end];
-    }
-    &reduced[at..end]
 }

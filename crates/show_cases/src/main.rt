@@ -1,176 +1,112 @@
 // Runs show, which has no entry for C, on the cases of the separate Rust version's file show-cases.txt, and prints the parts that it hands back.
 #![tactic(auto)]
 
-ghost use Rattle.std.specs.Prelude.{◌≤◌};
-
+use records::record::{RECORD, STOP};
+use show::show;
 use std::io;
-use std::io::Write;
+use std::iter::{once, repeat};
 
-// Puts texts with a space between them into records: each begins a record, and full stops fill it up to its line feed.
-fn fill_records(texts: &[u8], out: &mut [u8]) {
-    let mut i = 0;
-    while i < out.len() {
-        out[i] = if i % 64 == 63 { b'\n' } else { b'.' };
-        i += 1;
-    }
-    put_texts(texts, out);
-}
+// The bytes of 18 records, more than any system here has.
+const ROOM: usize = 1152;
 
-// Puts the texts at the beginnings of their records.
-fn put_texts(texts: &[u8], out: &mut [u8]) {
-    let mut at = 0;
-    let mut i = 0;
-    while i < texts.len() {
-        at = put_byte(texts[i], at, out);
-        i += 1;
-    }
-}
+// The texts that begin a system's records, with a space between them, and how many bytes the system has.
+struct System(&'static str, usize);
 
-// Puts one byte at its place, or goes on to the next record at a space, and answers the next place.
-fn put_byte(b: u8, at: usize, out: &mut [u8]) -> usize {
-    if at >= out.len() {
-        return out.len();
-    }
-    if b == b' ' {
-        return (at / 64 + 1) * 64;
-    }
-    out[at] = b;
-    at + 1
-}
+// A reduced system, a given one, and the byte of the slot that is shown.
+struct Case(System, System, u8);
 
-// Shows one slot of two systems of the given lengths, and prints the part, or a line that says that it is empty.
-fn show_case(
-    rt: &impl Print,
-    reduced: &[u8],
-    reduced_length: usize,
-    given: &[u8],
-    given_length: usize,
-    slot: u8,
-) -> io::Result<()>
-    requires reduced_fits { reduced_length ≤ 1152 }
-    requires given_fits { given_length ≤ 1152 }
-{
-    let mut first = [0u8; 1152];
-    let mut second = [0u8; 1152];
-    fill_records(reduced, &mut first);
-    fill_records(given, &mut second);
-    let part = show::show(&first[0..reduced_length], &second[0..given_length], slot);
-    if part.len() == 0 {
-        io::writer(rt).write_all(b"empty\n")
-    } else {
-        io::writer(rt).write_all(part)
-    }
-}
+// In the order of the file.
+const CASES: [Case; 30] = [
+    // Slots of two words, blank ones among them, and a slot that the systems have not.
+    Case(System("a b", 128), System("ab b", 128), b'a'),
+    Case(System("a b", 128), System("ab b", 128), b'b'),
+    Case(System(". a", 128), System("aa aaa", 128), b'a'),
+    Case(System(". a", 128), System("aa aaa", 128), b'b'),
+    Case(System(". b", 128), System(". b", 128), b'a'),
+    Case(System("a b", 128), System("ab b", 128), b'c'),
+    // Slots beyond the systems, and bytes that are no letter of a slot.
+    Case(System("a b", 128), System("ab b", 128), b'p'),
+    Case(System("a b", 128), System("ab b", 128), b'A'),
+    Case(System("a b", 128), System("ab b", 128), b'q'),
+    Case(System("a b", 128), System("ab b", 128), 0x00),
+    Case(System("a b", 128), System("ab b", 128), 0x60),
+    Case(System("a b", 128), System("ab b", 128), 0xff),
+    // Systems of different lengths, and lengths that are no multiple of 64.
+    Case(System("a b", 128), System("ab", 64), b'a'),
+    Case(System("a b", 128), System("ab b", 127), b'a'),
+    Case(System("a b", 127), System("ab b", 127), b'a'),
+    Case(System("a b", 133), System("ab b", 133), b'a'),
+    Case(System("", 0), System("", 0), b'a'),
+    Case(System("", 0), System("ab", 64), b'a'),
+    Case(System("", 63), System("", 63), b'a'),
+    // Systems of 16 and of 17 records.
+    Case(SIXTEEN, SIXTEEN_CAPITALS, b'a'),
+    Case(SIXTEEN, SIXTEEN_CAPITALS, b'm'),
+    Case(SIXTEEN, SIXTEEN_CAPITALS, b'p'),
+    Case(LAST_BLANK, SIXTEEN_CAPITALS, b'p'),
+    Case(SEVENTEEN, SEVENTEEN_CAPITALS, b'p'),
+    Case(SEVENTEEN, SEVENTEEN_CAPITALS, b'q'),
+    // Records whose first byte alone is looked at, and a full record.
+    Case(System(".bc a", 128), System("ab b", 128), b'a'),
+    Case(System("a.c a", 128), System("ab b", 128), b'a'),
+    Case(System("7?x a", 128), System("ab b", 128), b'a'),
+    Case(System(". a", 128), System(".?!7 b", 128), b'a'),
+    Case(FULL, System("a", 64), b'a'),
+];
 
-// Slots of two words, blank ones among them, and slots that the systems have not.
-fn two_slots(rt: &impl Print) -> io::Result<()> {
-    show_case(rt, b"a b", 128, b"ab b", 128, 0x61)?;
-    show_case(rt, b"a b", 128, b"ab b", 128, 0x62)?;
-    show_case(rt, b". a", 128, b"aa aaa", 128, 0x61)?;
-    show_case(rt, b". a", 128, b"aa aaa", 128, 0x62)?;
-    show_case(rt, b". b", 128, b". b", 128, 0x61)?;
-    show_case(rt, b"a b", 128, b"ab b", 128, 0x63)?;
-    Ok(())
-}
+const SIXTEEN: System = System("a b c d e f g h i j k l m n o p", 1024);
 
-// Slot bytes that are no letter of a slot.
-fn slot_bytes(rt: &impl Print) -> io::Result<()> {
-    show_case(rt, b"a b", 128, b"ab b", 128, 0x70)?;
-    show_case(rt, b"a b", 128, b"ab b", 128, 0x41)?;
-    show_case(rt, b"a b", 128, b"ab b", 128, 0x71)?;
-    show_case(rt, b"a b", 128, b"ab b", 128, 0x00)?;
-    show_case(rt, b"a b", 128, b"ab b", 128, 0x60)?;
-    show_case(rt, b"a b", 128, b"ab b", 128, 0xff)?;
-    Ok(())
-}
+const LAST_BLANK: System = System("a b c d e f g h i j k l m n o .", 1024);
 
-// Systems of different lengths, and lengths that are no multiple of 64.
-fn lengths(rt: &impl Print) -> io::Result<()> {
-    show_case(rt, b"a b", 128, b"ab", 64, 0x61)?;
-    show_case(rt, b"a b", 128, b"ab b", 127, 0x61)?;
-    show_case(rt, b"a b", 127, b"ab b", 127, 0x61)?;
-    show_case(rt, b"a b", 133, b"ab b", 133, 0x61)?;
-    show_case(rt, b"", 0, b"", 0, 0x61)?;
-    show_case(rt, b"", 0, b"ab", 64, 0x61)?;
-    show_case(rt, b"", 63, b"", 63, 0x61)?;
-    Ok(())
-}
+const SIXTEEN_CAPITALS: System = System("A B C D E F G H I J K L M N O P", 1024);
 
-// Systems of 16 and of 17 records.
-fn many_slots(rt: &impl Print) -> io::Result<()> {
-    show_case(
-        rt,
-        b"a b c d e f g h i j k l m n o p",
-        1024,
-        b"A B C D E F G H I J K L M N O P",
-        1024,
-        0x61,
-    )?;
-    show_case(
-        rt,
-        b"a b c d e f g h i j k l m n o p",
-        1024,
-        b"A B C D E F G H I J K L M N O P",
-        1024,
-        0x6d,
-    )?;
-    show_case(
-        rt,
-        b"a b c d e f g h i j k l m n o p",
-        1024,
-        b"A B C D E F G H I J K L M N O P",
-        1024,
-        0x70,
-    )?;
-    show_case(
-        rt,
-        b"a b c d e f g h i j k l m n o .",
-        1024,
-        b"A B C D E F G H I J K L M N O P",
-        1024,
-        0x70,
-    )?;
-    show_case(
-        rt,
-        b"a b c d e f g h i j k l m n o p q",
-        1088,
-        b"A B C D E F G H I J K L M N O P Q",
-        1088,
-        0x70,
-    )?;
-    show_case(
-        rt,
-        b"a b c d e f g h i j k l m n o p q",
-        1088,
-        b"A B C D E F G H I J K L M N O P Q",
-        1088,
-        0x71,
-    )?;
-    Ok(())
-}
+const SEVENTEEN: System = System("a b c d e f g h i j k l m n o p q", 1088);
 
-// Records whose first byte alone is looked at, and a full record.
-fn first_bytes(rt: &impl Print) -> io::Result<()> {
-    show_case(rt, b".bc a", 128, b"ab b", 128, 0x61)?;
-    show_case(rt, b"a.c a", 128, b"ab b", 128, 0x61)?;
-    show_case(rt, b"7?x a", 128, b"ab b", 128, 0x61)?;
-    show_case(rt, b". a", 128, b".?!7 b", 128, 0x61)?;
-    show_case(
-        rt,
-        b"abcdefghijklmnopqrstuvwxyzabcdefghijklmnopqrstuvwxyzabcdefghijk",
-        64,
-        b"a",
-        64,
-        0x61,
-    )?;
-    Ok(())
-}
+const SEVENTEEN_CAPITALS: System = System("A B C D E F G H I J K L M N O P Q", 1088);
+
+const FULL: System = System(
+    "abcdefghijklmnopqrstuvwxyzabcdefghijklmnopqrstuvwxyzabcdefghijk",
+    64,
+);
 
 fn main(rt: HostRuntime) -> io::Result<()> {
-    two_slots(&rt)?;
-    slot_bytes(&rt)?;
-    lengths(&rt)?;
-    many_slots(&rt)?;
-    first_bytes(&rt)?;
+    for case in &CASES {
+        show_case(&rt, case)?;
+    }
     Ok(())
+}
+
+// Shows the slot of a case, and prints the part, or a line that says that it is empty.
+fn show_case(rt: &impl Print, case: &Case) -> io::Result<()> {
+    let Case(System(reduced, reduced_length), System(given, given_length), slot) = *case;
+    let mut first = [0u8; ROOM];
+    let mut second = [0u8; ROOM];
+    fill_records(reduced, &mut first);
+    fill_records(given, &mut second);
+    let part = show(
+        &first[..reduced_length.min(ROOM)],
+        &second[..given_length.min(ROOM)],
+        slot,
+    );
+    if part.is_empty() {
+        rt.write_all(b"empty\n")
+    } else {
+        rt.write_all(part)
+    }
+}
+
+// Fills records with texts that have a space between them; the others are blank.
+fn fill_records(texts: &str, records: &mut [u8]) {
+    let texts = texts.split(' ').chain(repeat(""));
+    for (record, text) in records.chunks_exact_mut(RECORD).zip(texts) {
+        fill_record(text, record);
+    }
+}
+
+// Fills one record with its text, full stops and a line feed.
+fn fill_record(text: &str, record: &mut [u8]) {
+    let letters = text.bytes().chain(repeat(STOP)).take(RECORD - 1);
+    for (place, byte) in record.iter_mut().zip(letters.chain(once(b'\n'))) {
+        *place = byte;
+    }
 }

@@ -5,31 +5,31 @@
 mod reading;
 
 use crate::reading::read_input;
-use input::LONGEST;
+use input::{Kept, LONGEST};
 use output::print;
 use printing::answers::OUTPUT;
 use std::io;
-use std::io::Write;
 
 fn main(rt: HostRuntime) -> io::Result<()> {
-    let mut kept = [0u8; LONGEST];
-    let found = read_input(&mut rt.stdin(), &mut kept);
-    if found.failed {
+    let mut bytes = [0u8; LONGEST];
+    let mut kept = Kept {
+        bytes: &mut bytes,
+        size: 0,
+    };
+    if read_input(&mut rt.stdin(), &mut kept).is_err() {
         return rt.eprintln("subgroups: standard input cannot be read");
     }
+    let Kept { bytes, size } = kept;
     let mut out = [0u8; OUTPUT];
-    let size = found.size;
-    let printed = print(&kept, size, &mut out);
-    match printed {
-        Ok(n) => write_output(&rt, &out[0..n]),
-        Err(_) => unreachable!(),
-    }
+    let Ok(n) = print(bytes, size, &mut out) else {
+        unreachable!()
+    };
+    write_output(&rt, &out[..n])
 }
 
 // Writes the output to standard output, or tells on standard error that it cannot be written.
 fn write_output(rt: &(impl Print + Eprint), bytes: &[u8]) -> io::Result<()> {
-    let written = io::writer(rt).write_all(bytes);
-    if written.is_err() {
+    if rt.write_all(bytes).is_err() {
         return rt.eprintln("subgroups: standard output cannot be written");
     }
     Ok(())

@@ -1,16 +1,23 @@
 -- `subgroups::reading::read_input` meets its contract.
 use borrow.Author.Rules.{rules}
-use Rattle.input.proofs.Keeping.{more_read, nothing_read}
+use Rattle.subgroups.proofs.Parts.{all_taken, part_taken, still_input}
 use Rattle.subgroups.proofs.reading.read_input.Goals as goal
 
-pub loop-turns-init : goal.loop-turns-init
-loop-turns-init c = search (nothing_read, rules)
+pub returns-then-got-eq0-clause-all_of_it : goal.returns-then-got-eq0-clause-all_of_it
+returns-then-got-eq0-clause-all_of_it g c =
+    let part = c.in_ok-got.ensures.part in
+    all_taken (part_taken _ c.loop.invariant.taken part.0 c.in_ok-got.ensures.means) (part.1 (search rules) (search rules))
 
-pub returns-then-part : goal.returns-then-part
-returns-then-part c = search (more_read, c.read_part-part.ensures.means, rules)
+pub returns-then-got-eq0-clause-some_input : goal.returns-then-got-eq0-clause-some_input
+returns-then-got-eq0-clause-some_input g c =
+    still_input (part_taken _ c.loop.invariant.taken c.in_ok-got.ensures.part.0 c.in_ok-got.ensures.means)
 
-pub returns-then-part-eq0 : goal.returns-then-part-eq0
-returns-then-part-eq0 c = search (more_read, c.read_part-part.ensures.means, rules)
+pub returns-clause-some_input : goal.returns-clause-some_input
+returns-clause-some_input g c = still_input c.loop.invariant.taken
 
-pub loop-turns-preserved : goal.loop-turns-preserved
-loop-turns-preserved c = (search rules, search rules, search (more_read, c.read_part-part.ensures.means, rules))
+pub loop-preserved : goal.loop-preserved
+loop-preserved g c = record {
+  same_buffer = search rules;
+  room = search rules;
+  taken = part_taken _ c.loop.invariant.taken c.in_ok-got.ensures.part.0 c.in_ok-got.ensures.means;
+}

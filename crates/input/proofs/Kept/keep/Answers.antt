@@ -1,7 +1,7 @@
--- `input::keep` meets its contract.
+-- `input::Kept::keep` meets its contract.
 use borrow.Author.Rules.{rules}
 use Rattle.input.proofs.Keeping.{counted_told, keep_means}
-use Rattle.input.proofs.keep.Goals as goal
+use Rattle.input.proofs.Kept.keep.Goals as goal
 
 pub returns-clause-size : goal.returns-clause-size
 returns-clause-size c = search (counted_told, rules)
