@@ -14,7 +14,7 @@ use Rattle.words.specs.Words.{cancellation, common_prefix, freely_reduce, invers
 use Rattle.words.proofs.Alphabet.{byte_laws}
 use Rattle.words.proofs.Buffers.{front_part, rest_part}
 use Rattle.words.proofs.Cancellation.{cancellation-common_prefix, freely_reduce-cancellation}
-use Rattle.words.proofs.Inverse.{drop-inverse, inverse-cons, inverse-nil, signed_irreducible}
+use Rattle.words.proofs.Inverse.{drop-inverse, freely_reduce-inverse, inverse-cons, inverse-nil, signed_irreducible}
 use Rattle.words.proofs.FreeReduction.{freely_reduce_left, freely_reduce_twice, irreducible_of_same}
 
 -- an inverse put after the first n letters, from its last letter to its first
@@ -93,3 +93,8 @@ pushed_freely_reduced l t n e = ap (freely_reduce bytes) e ∙ freely_reduce_twi
 pub pushed_twice : (t t' : List ℕ) (n r : ℕ) (u v : List ℕ) → take n t ≡ freely_reduce bytes u → take r t' ≡ freely_reduce bytes (take n t ++ v)
     → take r t' ≡ freely_reduce bytes (u ++ v)
 pushed_twice t t' n r u v e f = f ∙ ap (λ (l : List ℕ). freely_reduce bytes (l ++ v)) e ∙ sym (freely_reduce_left bytes byte_laws u v)
+
+-- and the inverse of a freely reduced word is freely reduced
+pub inverse_freely_reduced : (w t : List ℕ) (n : ℕ) → freely_reduce bytes w ≡ w → take n t ≡ inverse bytes w → freely_reduce bytes (take n t) ≡ take n t
+inverse_freely_reduced w t n h e =
+    ap (freely_reduce bytes) e ∙ freely_reduce-inverse bytes byte_laws w ∙ ap (inverse bytes) h ∙ sym e
