@@ -74,7 +74,8 @@ impl<const ROOM: usize> Word<ROOM> {
     // Puts one more letter after the word, and cancels it where it meets its inverse.
     pub fn push(&mut self, letter: u8)
         requires { length self.old < ROOM }
-        ensures { self.new ≡ freely_reduce bytes (self.old ++ letter ∷ []) }
+        ensures product { self.new ≡ freely_reduce bytes (self.old ++ letter ∷ []) }
+        ensures within { length self.new ≤ length self.old + 1 }
     {
         self.size = push_last(&mut self.letters, self.size, letter);
     }
