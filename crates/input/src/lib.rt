@@ -4,7 +4,6 @@
 ghost use Rattle.std.specs.Prelude.{◌+◌, ◌≤◌, ℕ, ◌≡◌, List, ◌++◌, length};
 ghost use Rattle.input.specs.Input.{Holds, counted, kept_after};
 
-use words::cancel::least;
 use words::letters::copy_at;
 
 // The bytes of 17 records: a target, and the most that a system has.
@@ -27,12 +26,12 @@ pub fn keep(next: &[u8], kept: &mut [u8], size: usize) -> usize
 fn keep_bytes(next: &[u8], kept: &mut [u8], size: usize)
     ensures { kept.new ≡ kept_after next.now kept.old size }
 {
-    let room = least(LONGEST, kept.len());
+    let room = LONGEST.min(kept.len());
     if room <= size {
         return;
     }
-    let n = least(room - size, next.len());
-    copy_at(&next[0..n], kept, size);
+    let n = next.len().min(room - size);
+    copy_at(&next[..n], kept, size);
 }
 
 // A length as it is counted.
