@@ -14,7 +14,7 @@ ghost use Rattle.shortening.specs.Halves.{HalfAtMost};
 use marks::{is_fresh, mark, others_of};
 use slots::held::{length_of, letter_pair, word_at};
 use systems::{Form, Move};
-use words::cancel::{common_prefix, least};
+use words::cancel::common_prefix;
 
 // How many letters cancel between the two words of a form: those that a word, or its inverse, has in common with the other, or its inverse,
 // at their beginnings. The forms are numbered from 0.
@@ -56,7 +56,7 @@ fn shorter_half(lengths: &[usize], k: usize, i: usize) -> usize
     ensures half { result ≡ min (get_or lengths.now i 0) (get_or lengths.now k 0) / 2 }
     ensures most { result ≤ 31 }
 {
-    least(length_of(lengths, i), length_of(lengths, k)) / 2
+    length_of(lengths, i).min(length_of(lengths, k)) / 2
 }
 
 // Whether more than half of a word may cancel in a form: the form's two words have the same letter at place 0, and at the place that is half
@@ -104,7 +104,7 @@ fn first_form(
     ensures most { result ≤ 4 }
     ensures earlier { (form : ℕ) → form < result → HalfAtMost form (held_word letters.now lengths.now i) (held_word letters.now lengths.now k) }
 {
-    let shorter = least(length_of(lengths, i), length_of(lengths, k));
+    let shorter = length_of(lengths, i).min(length_of(lengths, k));
     if shorter == 0 {
         return 4;
     }

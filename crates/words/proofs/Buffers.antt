@@ -2,11 +2,11 @@
 use Prim.Native.Nat.{◌+◌, ◌-◌, ◌<◌, ◌≤◌, suc, zero, ℕ}
 use mathlib.Core.List.{List, [], ◌++◌, ◌∷◌, append_assoc, append-nil}
 use mathlib.Core.Path.{◌∙◌, ◌≡◌, ap, refl}
-use native.Mathlib.Nat.{le_antisymm, suc-add, zero-add}
+use native.Mathlib.Nat.{suc-add, zero-add}
 use native.Mathlib.Numerals.{add-one}
 use native.Mathlib.Omega.{arith}
 use lib.ListN.{drop, drop_of_length-le, get_or, length, length-append, length-drop, length-set, length-take, set, take}
-use lib.Seq.{drop-append_seam, drop-cons, drop-drop, drop-length, drop-nil, length-take-le, set_at, set_split, take_all, take-append_seam, take_at, take-length, take-suc}
+use lib.Seq.{drop-append_seam, drop-cons, drop-drop, drop-length, drop-nil, set_split, take_all, take-append_seam, take_at}
 use borrow.Rule.Slice.PartMut.{put_mid}
 use Rattle.words.specs.Buffers.{written, written_at}
 
@@ -27,18 +27,7 @@ front_short s n most h = rw (length-take (n - 0) s) (omega arith)
 pub rest_part : (s : List ℕ) (k : ℕ) → take (length s - k) (drop k s) ≡ drop k s
 rest_part s k = take_all (length s - k) (drop k s) (omega (arith, length-drop k s))
 
--- a copy of a list to the beginning of a buffer, one byte at a time
-module _ (w d : List ℕ) (i : ℕ) (inside : i < length w) (room : length w ≤ length d) where
-  copy_suc : set (take i w ++ drop i d) i (get_or w i 0) ≡ take (suc i) w ++ drop (suc i) d
-  copy_suc =
-      rw (drop-cons d i 0 (omega arith), set_at (take i w) _ _ _ i (length-take-le i w (omega arith)), take-suc w i 0, append_assoc)
-
-  pub copy_more : {out : List ℕ} → out ≡ take i w ++ drop i d → set out i (get_or w i 0) ≡ take (i + 1) w ++ drop (i + 1) d
-  copy_more e = rw (e, add-one) copy_suc
-
-pub copy_all : (w d : List ℕ) {out : List ℕ} (i : ℕ) → length w ≤ i → i ≤ length w → out ≡ take i w ++ drop i d → out ≡ w ++ drop (length w) d
-copy_all w d i l h e = rw (e, le_antisymm h l, take-length)
-
+-- a store keeps a buffer's length
 pub same_after : (l d : List ℕ) (i v : ℕ) → length l ≡ length d → length (set l i v) ≡ length d
 same_after l d i v e = length-set l i v ∙ e
 

@@ -9,7 +9,7 @@ use lib.ListN.{length, get_or, take, drop, take-append-drop, length-append, leng
 use lib.Seq.{take-suc, take_at, take-length, take-take, length-take-le}
 use Rattle.words.specs.Alphabet.{Alphabet}
 use Rattle.words.specs.Words.{freely_reduce, Irreducible, inverse, common_prefix, common_suffix, cancellation}
-use Rattle.words.proofs.Alphabet.{AlphabetLaws, same_yes, same_no, same?, flip_inj}
+use Rattle.words.proofs.Alphabet.{AlphabetLaws, same_yes, same_no, same?}
 use Rattle.words.proofs.FreeReduction.{irreducible_tail, irreducible_join, freely_reduce-same, freely_reduce_pair_flip}
 use Rattle.words.proofs.Inverse.{inverse-nil, inverse-cons, inverse_twice, inverse-length, inverse_irreducible, inverse-drop, inverse-get_or, freely_reduce-inverse_self}
 
@@ -147,30 +147,6 @@ module _ {A : Type 0} (G : Alphabet A) (L : AlphabetLaws G) where
   pub cancellation_local : (k : ℕ) (w u v : List A) → take k u ≡ take k v → cancellation G w v < k → cancellation G w u ≡ cancellation G w v
   unfolding cancellation
   cancellation_local k w u v e h = common_prefix_local k (inverse G w) u v e h
-
-  -- counting up what cancels: letter i of the second word against letter i from the end of the first
-  pub cancellation-more : (u v : List A) (i j : ℕ) (d e : A) → i ≤ cancellation G u v → suc (i + j) ≡ length u → i < length v
-      → get_or v i e ≡ flip (get_or u j d) → suc i ≤ cancellation G u v
-  unfolding cancellation
-  cancellation-more u v i j d e c h k g = common_prefix-more (inverse G u) v i d e c (omega (arith, inverse-length G L u)) k
-      (inverse-get_or G L u i j d d h ∙ sym g)
-
-  pub cancellation_stop : (u v : List A) (i j : ℕ) (d e : A) → i ≤ cancellation G u v → suc (i + j) ≡ length u
-      → (get_or v i e ≡ flip (get_or u j d) → ⊥) → cancellation G u v ≡ i
-  unfolding cancellation
-  cancellation_stop u v i j d e c h n = common_prefix_stop (inverse G u) v i d e c (λ q. n (sym q ∙ inverse-get_or G L u i j d d h))
-
-  -- counting up what two words have in common at their ends
-  pub common_suffix-more : (u v : List A) (i j k : ℕ) (d e : A) → i ≤ common_suffix G u v → suc (i + j) ≡ length u
-      → suc (i + k) ≡ length v → get_or u j d ≡ get_or v k e → suc i ≤ common_suffix G u v
-  common_suffix-more u v i j k d e c h l g = common_prefix-more (inverse G u) (inverse G v) i d e c
-      (omega (arith, inverse-length G L u)) (omega (arith, inverse-length G L v))
-      (inverse-get_or G L u i j d d h ∙ ap flip g ∙ sym (inverse-get_or G L v i k e e l))
-
-  pub common_suffix_stop : (u v : List A) (i j k : ℕ) (d e : A) → i ≤ common_suffix G u v → suc (i + j) ≡ length u
-      → suc (i + k) ≡ length v → (get_or u j d ≡ get_or v k e → ⊥) → common_suffix G u v ≡ i
-  common_suffix_stop u v i j k d e c h l n = common_prefix_stop (inverse G u) (inverse G v) i d e c
-      (λ q. n (flip_inj G L (get_or u j d) (get_or v k e) (sym (inverse-get_or G L u i j d d h) ∙ q ∙ inverse-get_or G L v i k e e l)))
 
   -- the inverse of a word before another: what they have in common goes
   freely_reduce-common_prefix : (r v : List A) → Irreducible G r → Irreducible G v

@@ -1,12 +1,11 @@
 -- Joining words at the beginning of a buffer: a word or its inverse is put after what stands there, less what cancels.
-use Prim.Native.Nat.{◌+◌, ◌-◌, ◌<◌, ◌≤◌, suc, ℕ}
+use Prim.Native.Nat.{◌+◌, ◌-◌, ◌≤◌, suc, ℕ}
 use mathlib.Core.Bool.{Bool, true, false}
 use mathlib.Core.List.{List, [], ◌++◌, ◌∷◌, append_assoc, append-nil}
 use mathlib.Core.Path.{◌∙◌, ◌≡◌, ap, ap₂, sym}
-use native.Mathlib.Numerals.{add-one}
 use native.Mathlib.Omega.{arith}
-use lib.ListN.{drop, get_or, length, length-drop, set, take}
-use lib.Seq.{drop-cons, drop-length, length-take-le, take-append-add, take-append_seam, take-suc-set, take-take}
+use lib.ListN.{drop, length, length-append, length-drop, set, take, take-append-drop}
+use lib.Seq.{drop-append_seam, drop-length, length-take-le, take-append-add, take-append_seam, take-length, take-suc-set, take-take}
 use borrow.Rule.Slice.PartMut.{put_mid}
 use Rattle.words.specs.Alphabet.{bytes, flip_byte}
 use Rattle.words.specs.Buffers.{written}
@@ -14,29 +13,50 @@ use Rattle.words.specs.Words.{cancellation, common_prefix, freely_reduce, invers
 use Rattle.words.proofs.Alphabet.{byte_laws}
 use Rattle.words.proofs.Buffers.{front_part, rest_part}
 use Rattle.words.proofs.Cancellation.{cancellation-common_prefix, freely_reduce-cancellation}
-use Rattle.words.proofs.Inverse.{drop-inverse, inverse-cons, inverse-nil, signed_irreducible}
+use Rattle.words.proofs.Inverse.{drop-inverse, freely_reduce-inverse, inverse-cons, inverse-nil, signed_irreducible}
 use Rattle.words.proofs.FreeReduction.{freely_reduce_left, freely_reduce_twice, irreducible_of_same}
 
--- an inverse put after the first n letters, from its last letter to its first
-module _ (s₀ s w : List ℕ) (n at j : ℕ) (here : take at s ≡ take n s₀ ++ inverse bytes (drop j w)) where
-  pub inverse-more : (full : length s ≡ length s₀) (counted : at + j ≡ n + length w) (room : n + length w ≤ length s₀) (some : 0 < j)
-      (inside : j ≤ length w) {f : ℕ} → f ≡ flip_byte (get_or w (j - 1) 0) → take (at + 1) (set s at f) ≡ take n s₀ ++ inverse bytes (drop (j - 1) w)
-  inverse-more full counted room some inside {f} e =
-      let back : suc (j - 1) ≡ j = omega arith in
-      let letter : drop (j - 1) w ≡ get_or w (j - 1) 0 ∷ drop j w =
-      drop-cons w (j - 1) 0 (omega arith) ∙ ap (λ (k : ℕ). get_or w (j - 1) 0 ∷ drop k w) back in
-      ap (λ (k : ℕ). take k (set s at f)) (add-one at) ∙ take-suc-set s at f (omega arith)
-      ∙ ap₂ (λ (l : List ℕ) (x : ℕ). l ++ (x ∷ [])) here e ∙ append_assoc (take n s₀) _ _
-      ∙ ap (λ (l : List ℕ). take n s₀ ++ l) (sym (inverse-cons bytes byte_laws (get_or w (j - 1) 0) (drop j w)) ∙ ap (inverse bytes) (sym letter))
+-- an inverse put after the first n letters, from its last letter to its first: i letters are there, and the rest of the word is to come
+module _ (s w rest : List ℕ) (n i : ℕ) (whole : rest ≡ w) (first : i ≡ 0) where
+  pub inverse_counted : i + length rest ≡ length w
+  inverse_counted = omega (arith, ap length whole)
 
-  pub inverse_all : at + j ≡ n + length w → j ≤ 0 → take (n + length w) s ≡ take n s₀ ++ inverse bytes w
-  inverse_all counted h =
-      let none : j ≡ 0 = omega arith in
-      let all : n + length w ≡ at = omega arith in
-      ap (λ (k : ℕ). take k s) all ∙ here ∙ ap (λ (k : ℕ). take n s₀ ++ inverse bytes (drop k w)) none
+  pub inverse_whole : rest ≡ take (length rest) w
+  inverse_whole = sym (take-length rest) ∙ ap (take (length rest)) whole
 
-pub inverse_begin : (s w : List ℕ) (n : ℕ) → take n s ≡ take n s ++ inverse bytes (drop (length w) w)
-inverse_begin s w n = sym (ap (λ (l : List ℕ). take n s ++ l) (ap (inverse bytes) (drop-length w) ∙ inverse-nil bytes byte_laws) ∙ append-nil (take n s))
+  pub inverse_begin : take (n + i) s ≡ take n s ++ inverse bytes (drop (length rest) w)
+  inverse_begin =
+      let none : n + i ≡ n = omega arith in
+      ap (λ (k : ℕ). take k s) none
+      ∙ sym (ap (λ (l : List ℕ). take n s ++ l) (ap (λ (k : ℕ). inverse bytes (drop k w)) (ap length whole) ∙ ap (inverse bytes) (drop-length w) ∙ inverse-nil bytes byte_laws) ∙ append-nil (take n s))
+
+module _ (s₀ s w rest rest' : List ℕ) (n i x : ℕ) (last : rest ≡ rest' ++ (x ∷ [])) (begins : rest ≡ take (length rest) w) where
+  one_less : length rest ≡ suc (length rest')
+  one_less = ap length last ∙ length-append rest' (x ∷ []) ∙ omega arith
+
+  pub inverse-counted_on : {i' : ℕ} → i + length rest ≡ length w → i' ≡ i + 1 → i' + length rest' ≡ length w
+  inverse-counted_on e p = omega (arith, one_less)
+
+  pub inverse-rest_begins : rest' ≡ take (length rest') w
+  inverse-rest_begins =
+      sym (take-append_seam rest' (x ∷ [])) ∙ ap (take (length rest')) (sym last ∙ begins) ∙ take-take (length rest') (length rest) w (omega (arith, one_less))
+
+  letter : length rest ≤ length w → drop (length rest') w ≡ x ∷ drop (length rest) w
+  letter h =
+      let split : w ≡ rest' ++ (x ∷ drop (length rest) w) =
+      sym (take-append-drop (length rest) w) ∙ ap (λ (l : List ℕ). l ++ drop (length rest) w) (sym begins ∙ last) ∙ append_assoc rest' (x ∷ []) _ in
+      ap (drop (length rest')) split ∙ drop-append_seam rest' _
+
+  pub inverse-more : (full : length s ≡ length s₀) (counted : i + length rest ≡ length w) (room : n + length w ≤ length s₀)
+      (here : take (n + i) s ≡ take n s₀ ++ inverse bytes (drop (length rest) w)) {f i' j : ℕ} → f ≡ flip_byte x → j ≡ i → i' ≡ i + 1
+      → take (n + i') (set s (n + j) f) ≡ take n s₀ ++ inverse bytes (drop (length rest') w)
+  inverse-more full counted room here {f} {i'} {j} e p q =
+      let next : n + i' ≡ suc (n + i) = omega arith in
+      let place : n + j ≡ n + i = omega arith in
+      ap₂ (λ (k m : ℕ). take k (set s m f)) next place ∙ take-suc-set s (n + i) f (omega (arith, one_less))
+      ∙ ap₂ (λ (l : List ℕ) (y : ℕ). l ++ (y ∷ [])) here e ∙ append_assoc (take n s₀) _ _
+      ∙ ap (λ (l : List ℕ). take n s₀ ++ l)
+      (sym (inverse-cons bytes byte_laws x (drop (length rest) w)) ∙ ap (inverse bytes) (sym (letter (omega arith))))
 
 -- what is left of a word or its inverse is put there
 module _ (b : Bool) (s w : List ℕ) (n c : ℕ) (inside : c ≤ length w) (room : n + length w ≤ length s + c) where
@@ -93,3 +113,8 @@ pushed_freely_reduced l t n e = ap (freely_reduce bytes) e ∙ freely_reduce_twi
 pub pushed_twice : (t t' : List ℕ) (n r : ℕ) (u v : List ℕ) → take n t ≡ freely_reduce bytes u → take r t' ≡ freely_reduce bytes (take n t ++ v)
     → take r t' ≡ freely_reduce bytes (u ++ v)
 pushed_twice t t' n r u v e f = f ∙ ap (λ (l : List ℕ). freely_reduce bytes (l ++ v)) e ∙ sym (freely_reduce_left bytes byte_laws u v)
+
+-- and the inverse of a freely reduced word is freely reduced
+pub inverse_freely_reduced : (w t : List ℕ) (n : ℕ) → freely_reduce bytes w ≡ w → take n t ≡ inverse bytes w → freely_reduce bytes (take n t) ≡ take n t
+inverse_freely_reduced w t n h e =
+    ap (freely_reduce bytes) e ∙ freely_reduce-inverse bytes byte_laws w ∙ ap (inverse bytes) h ∙ sym e

@@ -1,6 +1,6 @@
 -- Free reduction with a stack from the left: the stack holds the reduced word of the letters read, and one more letter is put after it
 -- or cancels its last.
-use Prim.Native.Nat.{ℕ, suc, ◌+◌, ◌-◌, ◌<◌}
+use Prim.Native.Nat.{ℕ, suc, ◌+◌, ◌-◌, ◌<◌, ◌≤◌}
 use mathlib.Core.Path.{◌≡◌, sym, ap, ◌∙◌}
 use mathlib.Core.List.{List, [], ◌∷◌, ◌++◌, append_assoc}
 use native.Mathlib.Omega.{arith}
@@ -13,12 +13,13 @@ use Rattle.words.proofs.Alphabet.{byte_laws}
 use Rattle.words.proofs.FreeReduction.{freely_reduce_left, freely_reduce_twice, freely_reduce-snoc_cancel, freely_reduce-snoc_keep}
 
 module _ (s : List ℕ) (n x : ℕ) (room : n < length s) where
-  pub stack_first : n ≡ 0 → take 1 (set s 0 x) ≡ freely_reduce bytes (take n s ++ (x ∷ []))
-  stack_first e =
+  pub stack_first : n ≤ 0 → take (n + 1) (set s n x) ≡ freely_reduce bytes (take n s ++ (x ∷ []))
+  stack_first h =
+      let none : n ≡ 0 = omega arith in
       let some : 0 < length s = omega arith in
-      rw e (take-suc-set s 0 x some)
+      rw none (take-suc-set s 0 x some)
 
-  module _ (freely : freely_reduce bytes (take n s) ≡ take n s) (full : n ≡ 0 → ⊥) where
+  module _ (freely : freely_reduce bytes (take n s) ≡ take n s) (full : 0 < n) where
     last_apart : take n s ≡ take (n - 1) s ++ (get_or s (n - 1) 0 ∷ [])
     last_apart =
         let back : suc (n - 1) ≡ n = omega arith in

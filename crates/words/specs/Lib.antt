@@ -2,3 +2,4 @@ pub mod Alphabet
 pub mod Words
 pub mod Buffers
 pub mod Below
+pub mod Pairs

@@ -12,13 +12,8 @@ pub fn push_last(stack: &mut [u8], n: usize, x: u8) -> usize
     ensures longer { result ≤ n + 1 }
     ensures word { take result stack.new ≡ freely_reduce bytes (take n stack.old ++ (x ∷ [])) }
 {
-    if n == 0 {
-        stack[0] = x;
-        return 1;
-    }
-    let last = n - 1;
-    if stack[last] == flip(x) {
-        return last;
+    if n > 0 && stack[n - 1] == flip(x) {
+        return n - 1;
     }
     stack[n] = x;
     n + 1

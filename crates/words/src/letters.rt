@@ -15,11 +15,7 @@ pub fn copy(word: &[u8], out: &mut [u8])
     requires { length word.now ≤ length out.old }
     ensures { out.new ≡ written word.now out.old }
 {
-    let mut i = 0;
-    while i < word.len() {
-        out[i] = word[i];
-        i += 1;
-    }
+    out[..word.len()].copy_from_slice(word);
 }
 
 // Copies bytes to a place of a buffer.

@@ -11,12 +11,8 @@ pub fn append_inverse(stack: &mut [u8], n: usize, word: &[u8])
     requires { n + length word.now ≤ length stack.old }
     ensures { take (n + length word.now) stack.new ≡ take n stack.old ++ inverse bytes word.now }
 {
-    let mut at = n;
-    let mut j = word.len();
-    while j > 0 {
-        j -= 1;
-        stack[at] = flip(word[j]);
-        at += 1;
+    for (i, letter) in word.iter().rev().enumerate() {
+        stack[n + i] = flip(*letter);
     }
 }
 
@@ -26,8 +22,7 @@ fn append_rest(stack: &mut [u8], n: usize, inverted: bool, word: &[u8], c: usize
     ensures { take (n + length word.now - c) stack.new ≡ take n stack.old ++ drop c (signed bytes inverted word.now) }
 {
     if inverted {
-        let size = word.len() - c;
-        append_inverse(stack, n, &word[0..size]);
+        append_inverse(stack, n, &word[..word.len() - c]);
     } else {
         copy(&word[c..], &mut stack[n..]);
     }
@@ -41,7 +36,7 @@ pub fn push_signed(stack: &mut [u8], n: usize, inverted: bool, word: &[u8]) -> u
     ensures longer { result ≤ n + length word.now }
     ensures product { take result stack.new ≡ freely_reduce bytes (take n stack.old ++ signed bytes inverted word.now) }
 {
-    let c = common_prefix_signed(true, &stack[0..n], inverted, word);
+    let c = common_prefix_signed(true, &stack[..n], inverted, word);
     let kept = n - c;
     append_rest(stack, kept, inverted, word, c);
     kept + word.len() - c

@@ -1,16 +1,13 @@
--- `words::cancel::common_prefix_signed` meets its contract: one law for each of the four cases.
+-- `words::cancel::common_prefix_signed` meets its contract.
 use borrow.Author.Rules.{rules}
-use Rattle.words.proofs.Counting.{signed_both, signed-first, signed_neither, signed_second}
+use Rattle.words.proofs.Counting.{prefix_end, prefix_more, prefix_stop}
 use Rattle.words.proofs.cancel.common_prefix_signed.Goals as goal
 
-pub returns-then-reversed-clause-common : goal.returns-then-reversed-clause-common
-returns-then-reversed-clause-common c = search (signed_both, rules)
+pub returns-then-letter_at-clause-common : goal.returns-then-letter_at-clause-common
+returns-then-letter_at-clause-common c = search (prefix_stop, rules)
 
-pub returns-then-inverted-clause-common : goal.returns-then-inverted-clause-common
-returns-then-inverted-clause-common c = search (signed-first, rules)
-
-pub returns-then-reversed-2-clause-common : goal.returns-then-reversed-2-clause-common
-returns-then-reversed-2-clause-common c = search (signed_second, rules)
+pub loop-i-preserved : goal.loop-i-preserved
+loop-i-preserved c = search (prefix_more, rules)
 
 pub returns-clause-common : goal.returns-clause-common
-returns-clause-common c = search (signed_neither, rules)
+returns-clause-common c = search (prefix_end, rules)
