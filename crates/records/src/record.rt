@@ -15,25 +15,18 @@ pub const STOP: u8 = 46;
 
 const LINE_FEED: u8 = 10;
 
-// Whether a byte is a letter: a capital and its small letter stand 32 apart.
+// Whether a byte is a letter.
 pub fn is_letter(b: u8) -> bool
     ensures { result ≡ is_letter b }
 {
-    if b < 65 {
-        return false;
-    }
-    if b > 122 {
-        return false;
-    }
-    (b - 65) % 32 < 26
+    b.is_ascii_alphabetic()
 }
 
 // Whether a byte may stand in a record before its line feed.
 fn is_letter_or_stop(b: u8) -> bool
     ensures { result ≡ is_letter_or_stop b }
 {
-    let letter = is_letter(b);
-    if letter { true } else { b == STOP }
+    is_letter(b) || b == STOP
 }
 
 // Refusals 3 to 5 on a record that starts at a place of its buffer.
@@ -80,13 +73,10 @@ fn check_letters(letters: &[u8], at: usize) -> Result<(), Refusal>
     requires place { at ≤ 4096 }
     ensures { result ≡ letters_rule letters.now at }
 {
-    let mut i = 0;
-    while i < letters.len() {
-        let letter = is_letter(letters[i]);
-        if !letter {
+    for (i, &b) in letters.iter().enumerate() {
+        if !is_letter(b) {
             return check_stops(&letters[i..], at + i);
         }
-        i += 1;
     }
     Ok(())
 }
@@ -97,13 +87,11 @@ fn check_stops(bytes: &[u8], at: usize) -> Result<(), Refusal>
     requires place { at ≤ 8192 }
     ensures { result ≡ stops_rule bytes.now at }
 {
-    let mut i = 0;
-    while i < bytes.len() {
-        let ordered = check_that(bytes[i] == STOP, Reason::LetterAfterStop, at + i);
+    for (i, &b) in bytes.iter().enumerate() {
+        let ordered = check_that(b == STOP, Reason::LetterAfterStop, at + i);
         let Ok(()) = ordered else {
             return check_rest(&bytes[i..], at + i, ordered);
         };
-        i += 1;
     }
     Ok(())
 }
@@ -128,17 +116,11 @@ fn check_bytes(bytes: &[u8], at: usize) -> Result<(), Refusal>
     requires place { at ≤ 16384 }
     ensures { result ≡ byte_rule bytes.now at }
 {
-    let mut i = 0;
-    while i < bytes.len() {
-        let checked = check_that(
-            is_letter_or_stop(bytes[i]),
-            Reason::NeitherLetterNorStop,
-            at + i,
-        );
+    for (i, &b) in bytes.iter().enumerate() {
+        let checked = check_that(is_letter_or_stop(b), Reason::NeitherLetterNorStop, at + i);
         let Ok(()) = checked else {
             return checked;
         };
-        i += 1;
     }
     Ok(())
 }
@@ -149,12 +131,10 @@ pub fn word_length(bytes: &[u8]) -> usize
     ensures short { result ≤ 63 }
     ensures word { take result bytes.now ≡ word_of bytes.now }
 {
-    let mut i = 0;
-    while i < 63 {
+    for i in 0..63 {
         if bytes[i] == STOP {
             return i;
         }
-        i += 1;
     }
     63
 }
@@ -165,18 +145,7 @@ pub fn write_record(word: &[u8], out: &mut [u8])
     requires room { length out.old ≡ 64 }
     ensures { out.new ≡ record_of word.now }
 {
-    fill_stops(out);
+    out.fill(STOP);
     copy(word, out);
     out[63] = LINE_FEED;
-}
-
-// Fills a buffer with full stops.
-fn fill_stops(out: &mut [u8])
-    ensures { out.new ≡ blanks (length out.old) }
-{
-    let mut i = 0;
-    while i < out.len() {
-        out[i] = STOP;
-        i += 1;
-    }
 }

@@ -6,8 +6,8 @@ use Rattle.records.proofs.record.check_letters.Goals as goal
 pub loop-i-init : goal.loop-i-init
 loop-i-init c = search (letters_begin, rules)
 
-pub returns-then-not-letter : goal.returns-then-not-letter
-returns-then-not-letter c = search (letters_stop, rules)
+pub returns-then-not-is_letter : goal.returns-then-not-is_letter
+returns-then-not-is_letter c = search (letters_stop, rules)
 
 pub loop-i-preserved : goal.loop-i-preserved
 loop-i-preserved c = search (letters_more, rules)
