@@ -4,7 +4,7 @@ use Prim.Native.Nat.{◌%◌, ◌+◌, ◌-◌, ◌/◌, ◌<◌, ◌≤◌, ℕ
 use mathlib.Core.Bool.{Bool, false, not, true}
 use mathlib.Core.List.{List}
 use mathlib.Core.Logic.{inl, inr}
-use Rattle.std.specs.Prelude.{None, Some}
+use Rattle.std.specs.Prelude.{IfSome, None, Option, Some}
 use mathlib.Core.Path.{◌∙◌, ◌≡◌, ap, ap₂, refl, sym}
 use native.Mathlib.Numerals.{add-one}
 use native.Mathlib.Omega.{arith}
@@ -17,6 +17,7 @@ use Rattle.words.proofs.Alphabet.{byte_laws}
 use Rattle.words.proofs.Inverse.{inverse-length}
 use Rattle.systems.specs.declared.Form.TheVariants.{Before, InverseAfter}
 use Rattle.systems.specs.Products.{word}
+use Rattle.systems.specs.declared.Move.{Move}
 use Rattle.systems.specs.Rules.{begins, elsewhere, ends, first, first_half, half_end, qualifies, second_half, shortest_below, try_half}
 use Rattle.systems.proofs.HalfEnds.{half_at_beginning, half_at_end, half_neither, half-same, half_end_chosen, half_end-first, half_end_unchosen, shortest_better, shortest_keep, shortest_skip, shortest_some, shortest_start}
 use Rattle.systems.proofs.Qualifying.{qualifies_qualified}
@@ -151,42 +152,42 @@ module _ (letters lengths : List ℕ) (n h size : ℕ) (sized : size ≡ get_or 
             ) met
 
 -- the best word so far among the slots below k: none, or the shortest that qualifies, in the lowest slot
-pub data Best (S : List (List ℕ)) (n k best least : ℕ) : Type 0 where
-  none_yet : best ≡ n → least ≡ 64 → shortest_below bytes S k ≡ None → Best S n k best least
-  one_yet : best < n → least ≡ length (word bytes S best) → shortest_below bytes S k ≡ Some best → Best S n k best least
+pub data Best (S : List (List ℕ)) (n k : ℕ) (best : Option ℕ) (least : ℕ) : Type 0 where
+  none_yet : best ≡ None → least ≡ 64 → shortest_below bytes S k ≡ None → Best S n k best least
+  one_yet : (h : ℕ) → best ≡ Some h → h < n → least ≡ length (word bytes S h) → shortest_below bytes S k ≡ Some h → Best S n k best least
 
-pub best_begin : (S : List (List ℕ)) (n : ℕ) → Best S n 0 n 64
+pub best_begin : (S : List (List ℕ)) (n : ℕ) → Best S n 0 None 64
 best_begin S n = none_yet refl refl refl
 
-module _ (S : List (List ℕ)) (n k best least : ℕ) where
+module _ (S : List (List ℕ)) (n k : ℕ) (best : Option ℕ) (least : ℕ) where
   best_skipped : qualifies bytes S k ≡ false → Best S n k best least → Best S n (k + 1) best least
   best_skipped e (none_yet p q d) = none_yet p q (rw add-one (shortest_skip bytes byte_laws S k e ∙ d))
-  best_skipped e (one_yet p q d) = one_yet p q (rw add-one (shortest_skip bytes byte_laws S k e ∙ d))
+  best_skipped e (one_yet h p i q d) = one_yet h p i q (rw add-one (shortest_skip bytes byte_laws S k e ∙ d))
 
   -- a word that is no shorter is not asked whether it qualifies
   best_kept : (size : ℕ) → length (word bytes S k) ≡ size → size ≤ 63 → least ≤ size → Best S n k best least → Best S n (k + 1) best least
   best_kept size sized small long (none_yet p q d) = absurd (omega arith)
-  best_kept size sized small long (one_yet p q d) = elim (bool_cases (qualifies bytes S k)) [
-    | inl t ↦ one_yet p q (rw add-one (shortest_keep bytes byte_laws S k best t d (omega arith)))
-    | inr t ↦ one_yet p q (rw add-one (shortest_skip bytes byte_laws S k t ∙ d))
+  best_kept size sized small long (one_yet h p i q d) = elim (bool_cases (qualifies bytes S k)) [
+    | inl t ↦ one_yet h p i q (rw add-one (shortest_keep bytes byte_laws S k h t d (omega arith)))
+    | inr t ↦ one_yet h p i q (rw add-one (shortest_skip bytes byte_laws S k t ∙ d))
   ]
 
   best_taken : (size : ℕ) → length (word bytes S k) ≡ size → k < n → size < least → qualifies bytes S k ≡ true → Best S n k best least
-      → Best S n (k + 1) k size
-  best_taken size sized inside less t (none_yet p q d) = one_yet inside (sym sized) (rw add-one (shortest_start bytes byte_laws S k t d))
-  best_taken size sized inside less t (one_yet p q d) =
-      one_yet inside (sym sized) (rw add-one (shortest_better bytes byte_laws S k best t d (omega arith)))
+      → Best S n (k + 1) (Some k) size
+  best_taken size sized inside less t (none_yet p q d) = one_yet k refl inside (sym sized) (rw add-one (shortest_start bytes byte_laws S k t d))
+  best_taken size sized inside less t (one_yet h p i q d) =
+      one_yet k refl inside (sym sized) (rw add-one (shortest_better bytes byte_laws S k h t d (omega arith)))
 
-  pub best_chosen : k ≤ n → n ≤ k → Best S n k best least → best < n → shortest_below bytes S n ≡ Some best
-  best_chosen l m (none_yet p q d) h = absurd (omega arith)
-  best_chosen l m (one_yet p q d) h = let z : k ≡ n = omega arith in rw z at d
+  pub best_found : k ≤ n → n ≤ k → Best S n k best least → best ≡ shortest_below bytes S n
+  best_found l m (none_yet p q d) = let z : k ≡ n = omega arith in p ∙ sym (rw z at d)
+  best_found l m (one_yet h p i q d) = let z : k ≡ n = omega arith in p ∙ sym (rw z at d)
 
-  pub best_unchosen : k ≤ n → n ≤ k → Best S n k best least → n ≤ best → shortest_below bytes S n ≡ None
-  best_unchosen l m (none_yet p q d) h = let z : k ≡ n = omega arith in rw z at d
-  best_unchosen l m (one_yet p q d) h = absurd (omega arith)
+  pub best_inside : Best S n k best least → IfSome best (λ h. h < n)
+  best_inside (none_yet p q d) = rw p tt
+  best_inside (one_yet h p i q d) = rw p i
 
 -- a turn of the loop over the slots
-module _ (letters lengths : List ℕ) (n k best least best' least' size : ℕ) (here : Best (held n letters lengths) n k best least)
+module _ (letters lengths : List ℕ) (n k : ℕ) (best best' : Option ℕ) (least least' size : ℕ) (here : Best (held n letters lengths) n k best least)
     (sized : size ≡ get_or lengths k 0) (few : n ≤ 16) (inside : k < n) (wide : length letters ≡ 1024) (short : Short lengths) where
   pub best_long : best' ≡ best → least' ≡ least → size ≤ 63 → least ≤ size → Best (held n letters lengths) n (k + 1) best' least'
   best_long p q small long =
@@ -196,7 +197,7 @@ module _ (letters lengths : List ℕ) (n k best least best' least' size : ℕ) (
       → Best (held n letters lengths) n (k + 1) best' least'
   best_skip p q chosen told e = rw (p, q) (best_skipped (held n letters lengths) n k best least (sym told ∙ e) here)
 
-  pub best_take : best' ≡ k → least' ≡ size → size < least → (chosen : Bool) → chosen ≡ qualifies bytes (held n letters lengths) k
+  pub best_take : best' ≡ Some k → least' ≡ size → size < least → (chosen : Bool) → chosen ≡ qualifies bytes (held n letters lengths) k
       → chosen ≡ true → Best (held n letters lengths) n (k + 1) best' least'
   best_take p q less chosen told e =
       rw (p, q)
@@ -294,11 +295,8 @@ module _ (letters lengths : List ℕ) (n h k : ℕ) (kept : Kept letters lengths
           (front_test ∙ lt-leb (length other-inverse / 2) front less))
 
 -- no word qualifies, so there is no half-end move
-pub none_chosen : (letters lengths : List ℕ) (n h : ℕ) → (n ≤ h → shortest_below bytes (held n letters lengths) n ≡ None) → n ≤ h
-    → None ≡ half_end bytes (held n letters lengths)
-none_chosen letters lengths n h unchosen l =
-    sym (half_end_unchosen bytes byte_laws (held n letters lengths) (rw (held-length n letters lengths) (unchosen l)))
-
-pub some_chosen : (letters lengths : List ℕ) (n h : ℕ) → (h < n → shortest_below bytes (held n letters lengths) n ≡ Some h) → h < n
-    → shortest_below bytes (held n letters lengths) n ≡ Some h
-some_chosen letters lengths n h chosen l = chosen l
+-- no word qualifies
+pub none_chosen : (letters lengths : List ℕ) (n : ℕ) {best : Option ℕ} {none : Option Move} → best ≡ shortest_below bytes (held n letters lengths) n → best ≡ None
+    → none ≡ None → none ≡ half_end bytes (held n letters lengths)
+none_chosen letters lengths n told e same =
+    same ∙ sym (half_end_unchosen bytes byte_laws (held n letters lengths) (rw (held-length n letters lengths) (sym told ∙ e)))

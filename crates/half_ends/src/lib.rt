@@ -2,7 +2,7 @@
 // common, and builds nothing.
 #![tactic(auto)]
 
-ghost use Rattle.std.specs.Prelude.{◌<◌, ◌≤◌, ◌≡◌, leb, get_or, length};
+ghost use Rattle.std.specs.Prelude.{◌<◌, ◌≤◌, ◌≡◌, IfSome, leb, get_or, length};
 ghost use Rattle.words.specs.Alphabet.{bytes};
 ghost use Rattle.words.specs.Words.{common_prefix};
 ghost use Rattle.systems.specs.Rules.{half_end, qualifies, shortest_below};
@@ -83,15 +83,13 @@ fn half_elsewhere(
     requires has_halves { 2 ≤ get_or lengths.now h 0 }
     ensures { result ≡ half_elsewhere inverted n (held n letters.now lengths.now) h }
 {
-    let mut i = 0;
-    while i < n {
+    for i in 0..n {
         if i != h {
             let met = meets_half(inverted, letters, inverses, lengths, n, h, i);
             if met {
                 return true;
             }
         }
-        i += 1;
     }
     false
 }
@@ -117,26 +115,24 @@ fn does_qualify(letters: &[u8], inverses: &[u8], lengths: &[usize], n: usize, h:
     half_elsewhere(true, letters, inverses, lengths, n, h)
 }
 
-// The slot of the shortest word that qualifies, the lowest on a tie, or n where none does.
-fn shortest_slot(letters: &[u8], inverses: &[u8], lengths: &[usize], n: usize) -> usize
+// The slot of the shortest word that qualifies, the lowest on a tie.
+fn shortest_slot(letters: &[u8], inverses: &[u8], lengths: &[usize], n: usize) -> Option<usize>
     requires held { Held n letters.now lengths.now }
     requires inverted { Inverted n letters.now inverses.now lengths.now }
-    ensures chosen { result < n → shortest_below bytes (held n letters.now lengths.now) n ≡ Some result }
-    ensures unchosen { n ≤ result → shortest_below bytes (held n letters.now lengths.now) n ≡ None }
+    ensures chosen { result ≡ shortest_below bytes (held n letters.now lengths.now) n }
+    ensures inside { IfSome result (λ h. h < n) }
 {
-    let mut best = n;
+    let mut best = None;
     let mut least = RECORD;
-    let mut k = 0;
-    while k < n {
+    for k in 0..n {
         let size = length_of(lengths, k);
         if size < least {
             let chosen = does_qualify(letters, inverses, lengths, n, k);
             if chosen {
-                best = k;
+                best = Some(k);
                 least = size;
             }
         }
-        k += 1;
     }
     best
 }
@@ -159,8 +155,7 @@ fn half_end_by(
 {
     let other_inverse = word_at(inverses, lengths, h);
     let half = other_inverse.len() / 2;
-    let mut k = 0;
-    while k < n {
+    for k in 0..n {
         if k != h {
             let changed_inverse = word_at(inverses, lengths, k);
             let back = common_prefix(other_inverse, changed_inverse);
@@ -181,7 +176,6 @@ fn half_end_by(
                 });
             }
         }
-        k += 1;
     }
     None
 }
@@ -193,9 +187,6 @@ pub fn find_half_end(letters: &[u8], inverses: &[u8], lengths: &[usize], n: usiz
     ensures found { result ≡ half_end bytes (held n letters.now lengths.now) }
     ensures below { FoundBelow n result }
 {
-    let h = shortest_slot(letters, inverses, lengths, n);
-    if h >= n {
-        return None;
-    }
+    let h = shortest_slot(letters, inverses, lengths, n)?;
     half_end_by(letters, inverses, lengths, n, h)
 }

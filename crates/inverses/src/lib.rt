@@ -17,10 +17,8 @@ pub fn invert_words(letters: &[u8], lengths: &[usize], n: usize, inverses: &mut 
     requires wide { length inverses.old ≡ 1024 }
     ensures { Inverted n letters.now inverses.new lengths.now }
 {
-    let mut k = 0;
-    while k < n {
+    for k in 0..n {
         invert_word(letters, lengths, n, k, inverses);
-        k += 1;
     }
 }
 

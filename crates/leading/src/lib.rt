@@ -30,8 +30,7 @@ fn find_lead(half: bool, word: &[u8], n: usize, letters: &[u8], lengths: &[usize
     ensures found { result ≡ lead_below half n (held n letters.now lengths.now) word.now }
     ensures below { LeadBelow n result }
 {
-    let mut k = 0;
-    while k < n {
+    for k in 0..n {
         let plain = does_lead(half, false, word, n, letters, lengths, k);
         if plain {
             return Some(Factor {
@@ -46,7 +45,6 @@ fn find_lead(half: bool, word: &[u8], n: usize, letters: &[u8], lengths: &[usize
                 inverted: true,
             });
         }
-        k += 1;
     }
     None
 }
@@ -92,14 +90,12 @@ fn ends_elsewhere(inverted: bool, n: usize, letters: &[u8], lengths: &[usize], k
     ensures { result ≡ ends_elsewhere n (held n letters.now lengths.now) k inverted }
 {
     let whole = word_at(letters, lengths, k);
-    let mut j = 0;
-    while j < n {
+    for j in 0..n {
         let other = word_at(letters, lengths, j);
         let met = ends_apart(k, inverted, whole, j, other);
         if met {
             return true;
         }
-        j += 1;
     }
     false
 }

@@ -185,8 +185,8 @@ module _ (marks : List ℕ) (k i : ℕ) where
 
 -- the slots outside a range
 module _ (n c k : ℕ) where
-  pub outside_one : k < c → Outside n c k (record { from = c; to = c + 1 })
+  pub outside_one : k < c → Outside n c k (record { start = c; end = c + 1 })
   outside_one l j h o = (l, λ e. o (omega arith) (omega arith))
 
-  pub outside_none : Outside n c k (record { from = 0; to = n })
+  pub outside_none : Outside n c k (record { start = 0; end = n })
   outside_none j h o = absurd (o (omega arith) h)

@@ -3,7 +3,7 @@ use Rattle.std.specs.Prelude.{◌*◌, ◌+◌, ◌<◌, ◌≤◌, ℕ, List, �
 use Rattle.std.specs.Prelude.{None}
 use Rattle.words.specs.Alphabet.{bytes}
 use Rattle.systems.specs.Rules.{try_other}
-use Rattle.marks.specs.declared.Slots.{Slots}
+use Rattle.std.specs.declared.ops.Range.{Range}
 
 -- a table of pairs, k's with i at place 16 k + i: where a pair is marked, slot i shortens slot k by no form
 abbrev pub Marked : ℕ → List (List ℕ) → List ℕ → Type 0
@@ -26,5 +26,5 @@ abbrev pub Settled : ℕ → List (List ℕ) → ℕ → Type 0
 Settled n S c = (k i : ℕ) → k < c → i < n → (i ≡ c → ⊥) → try_other bytes S k i ≡ None
 
 -- a slot outside a range need not be tried with slot k: k comes before slot c, and the slot is not c
-abbrev pub Outside : ℕ → ℕ → ℕ → Slots → Type 0
-Outside n c k range = (j : ℕ) → j < n → (range.from ≤ j → j < range.to → ⊥) → (k < c) × (j ≡ c → ⊥)
+abbrev pub Outside : ℕ → ℕ → ℕ → Range ℕ → Type 0
+Outside n c k range = (j : ℕ) → j < n → (range.start ≤ j → j < range.end → ⊥) → (k < c) × (j ≡ c → ⊥)

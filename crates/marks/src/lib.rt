@@ -5,26 +5,18 @@
 ghost use Rattle.std.specs.Prelude.{◌*◌, ◌+◌, ◌-◌, ◌<◌, ◌≤◌, false, true, ◌⊎◌, ◌≡◌, get_or, length};
 ghost use Rattle.marks.specs.Marks.{Added, Outside, PairsSet};
 
-// The slots from one up to, but without, another.
-#[derive(Clone, Copy)]
-pub struct Slots {
-    pub from: usize,
-    pub to: usize,
-}
+use std::ops::Range;
 
 // The slots that slot k has to be tried with: the slot changed last where k comes before it, and otherwise all.
-pub fn others_of(n: usize, last: usize, k: usize) -> Slots
+pub fn others_of(n: usize, last: usize, k: usize) -> Range<usize>
     requires { (k < n) × (n ≤ 16) × (last ≤ n - 1) }
-    ensures within { result.to ≤ n }
+    ensures within { result.end ≤ n }
     ensures outside { Outside n last k result }
 {
     if k < last {
-        return Slots {
-            from: last,
-            to: last + 1,
-        };
+        return last..last + 1;
     }
-    Slots { from: 0, to: n }
+    0..n
 }
 
 // Whether a pair of slots has to be tried: it is not marked, and the two differ.
@@ -57,12 +49,10 @@ pub fn set_pairs(marks: &mut [u8], c: usize, value: u8)
     requires { (c < 16) × (length marks.old ≡ 256) }
     ensures { PairsSet c value marks.old marks.new }
 {
-    let mut j = 0;
-    while j < 16 {
+    for j in 0..16 {
         let first = c * 16 + j;
         let second = j * 16 + c;
         marks[first] = value;
         marks[second] = value;
-        j += 1;
     }
 }

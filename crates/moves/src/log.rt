@@ -75,13 +75,11 @@ fn check_moves(n: usize, log: &[u8], m: usize) -> Result<(), Refusal>
     requires { m * move_size ≤ length log.now }
     ensures { result ≡ each_below (move_rule n log.now) m }
 {
-    let mut j = 0;
-    while j < m {
+    for j in 0..m {
         let checked = check_that(is_move(n, log, j), Reason::LogRecordMalformed, j * MOVE);
         let Ok(()) = checked else {
             return checked;
         };
-        j += 1;
     }
     Ok(())
 }

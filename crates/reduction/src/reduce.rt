@@ -128,10 +128,8 @@ fn rank_of(letters: &[u8], lengths: &[usize], n: usize) -> usize
     ensures { result ≡ rank (held n letters.now lengths.now) }
 {
     let mut count = 0;
-    let mut k = 0;
-    while k < n {
+    for k in 0..n {
         count += one_if_some(lengths[k]);
-        k += 1;
     }
     count
 }

@@ -71,8 +71,7 @@ fn run(
     ensures held { Held n letters.new lengths.new }
 {
     let count = log.len() / MOVE;
-    let mut done = 0;
-    while done < count {
+    for done in 0..count {
         let at = place_at(backward, count, done);
         let m = directed(backward, read_move(n, log, at));
         let fitted = check_that(
@@ -83,7 +82,6 @@ fn run(
         let Ok(()) = fitted else {
             return fitted;
         };
-        done += 1;
     }
     Ok(())
 }

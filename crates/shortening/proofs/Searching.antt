@@ -28,7 +28,7 @@ use Rattle.slots.proofs.Holding.{held-length, held-size, held_word_lem}
 use Rattle.moves.specs.Found.{FoundBelow}
 use Rattle.systems.specs.declared.Move.{Move}
 use Rattle.marks.specs.Marks.{Added, Marked, Outside, Settled}
-use Rattle.marks.specs.declared.Slots.{Slots}
+use Rattle.std.specs.declared.ops.Range.{Range}
 use Rattle.marks.proofs.Marking.{marked_more}
 use Rattle.inverses.specs.Inverses.{Inverted}
 use Rattle.shortening.specs.Halves.{HalfAtMost}
@@ -229,8 +229,8 @@ changed_begin letters lengths marks n last here last_within long marked settled 
     }
 
 module _ (letters lengths marks : List ℕ) (n last k : ℕ) (found : Option Move) where
-  pub others_begin : Changed letters lengths marks n last k found → k < n → (range : Slots) → range.to ≤ n → Outside n last k range
-      → Others letters lengths marks n last k range.from range.to found
+  pub others_begin : Changed letters lengths marks n last k found → k < n → (range : Range ℕ) → range.end ≤ n → Outside n last k range
+      → Others letters lengths marks n last k range.start range.end found
   others_begin c h range inside out =
       record {
         changed = c;

@@ -122,13 +122,6 @@ fn first_form(
     if alike { 0 } else { 4 }
 }
 
-// The greater of two numbers.
-fn greatest(a: usize, b: usize) -> usize
-    ensures { result ≡ max a b }
-{
-    if a < b { b } else { a }
-}
-
 // The first shortening move, in the order of changed slot, other slot and form: more than half of the other word cancels. Pairs that were
 // tried and failed are passed over; those that fail now are marked, both ways round where at most half of either word cancels.
 // `last` is the slot changed last, or 0: of the slots before it only their pairs with it are tried.
@@ -151,21 +144,16 @@ pub fn find_shortening(
     ensures marked { Marked n (held n letters.now lengths.now) marks.new }
 {
     let mut found = None;
-    let mut k = 0;
-    'search: while k < n {
+    'search: for k in 0..n {
         let whole = length_of(lengths, k);
         let slots = others_of(n, last, k);
-        let mut i = slots.from;
-        let end = slots.to;
-        while i < end {
-            let fresh = is_fresh(marks, k, i);
-            if fresh {
+        let end = slots.end;
+        for i in slots.start..end {
+            if is_fresh(marks, k, i) {
                 let size = length_of(lengths, i);
                 let mut most = 0;
-                let mut form = first_form(letters, inverses, lengths, n, k, i);
-                while form < 4 {
-                    let close = is_close(form, letters, inverses, lengths, n, k, i);
-                    if close {
+                for form in first_form(letters, inverses, lengths, n, k, i)..4 {
+                    if is_close(form, letters, inverses, lengths, n, k, i) {
                         let c = seam_of(form, letters, inverses, lengths, n, k, i);
                         if size < 2 * c {
                             found = Some(Move {
@@ -175,16 +163,13 @@ pub fn find_shortening(
                             });
                             break 'search;
                         }
-                        most = greatest(most, c);
+                        most = most.max(c);
                     }
-                    form += 1;
                 }
                 let both = 2 * most <= whole;
                 mark(marks, k, i, both);
             }
-            i += 1;
         }
-        k += 1;
     }
     found
 }

@@ -11,7 +11,7 @@ pub returns-then-met : goal.returns-then-met
 returns-then-met c = search (elsewhere_met, rules)
 
 pub loop-i-preserved : goal.loop-i-preserved
-loop-i-preserved c = (search rules, elim c.if-i-h.branch [ then-i-h+else-met w ↦ search (elsewhere_turn, rules) | else-i-h w ↦ search (elsewhere_own, rules) ])
+loop-i-preserved c = (elim c.if-i-h.branch [ then-i-h+else-met w ↦ search (elsewhere_turn, rules) | else-i-h w ↦ search (elsewhere_own, rules) ])
 
 pub returns : goal.returns
 returns c = search (elsewhere_end, rules)

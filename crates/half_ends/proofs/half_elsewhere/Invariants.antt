@@ -1,4 +1,3 @@
-use Prim.Native.Nat.{◌≤◌, ◌-◌}
 use mathlib.Core.Bool.{false}
 use mathlib.Core.Path.{◌≡◌}
 use Rattle.slots.specs.Held.{held}
@@ -6,7 +5,4 @@ use Rattle.half_ends.specs.HalfEnds.{half_elsewhere}
 use Rattle.half_ends.proofs.half_elsewhere.Given as goal
 
 abbrev pub invariant-loop-i : goal.invariant-loop-i
-invariant-loop-i l = (l.i ≤ l.n) × (half_elsewhere l.inverted l.i (held l.n l.letters l.lengths) l.h ≡ false)
-
-abbrev pub decreases-loop-i : goal.decreases-loop-i
-decreases-loop-i l = l.n - l.i
+invariant-loop-i l = (half_elsewhere l.inverted l.i (held l.n l.letters l.lengths) l.h ≡ false)

@@ -14,7 +14,7 @@ pub returns-then-half-front-clause-found : goal.returns-then-half-front-clause-f
 returns-then-half-front-clause-found c = search (kept_at_beginning, rules)
 
 pub loop-k-preserved : goal.loop-k-preserved
-loop-k-preserved c = (search rules, search rules, elim c.if-k-h.branch [ then-k-h+else-half-back+else-half-front w ↦ search (kept_turn, rules) | else-k-h w ↦ search (kept_own, rules) ])
+loop-k-preserved c = (search rules, elim c.if-k-h.branch [ then-k-h+else-half-back+else-half-front w ↦ search (kept_turn, rules) | else-k-h w ↦ search (kept_own, rules) ])
 
 pub returns-clause-found : goal.returns-clause-found
 returns-clause-found c = search (kept_end, rules)

@@ -1,4 +1,3 @@
-use Prim.Native.Nat.{◌≤◌, ◌-◌}
 use mathlib.Core.Path.{◌≡◌}
 use Rattle.slots.specs.Held.{held_word}
 use Rattle.half_ends.proofs.HalfSearch.{Kept}
@@ -6,7 +5,4 @@ use Rattle.half_ends.proofs.half_end_by.Given as goal
 
 abbrev pub invariant-loop-k : goal.invariant-loop-k
 invariant-loop-k l =
-    (l.k ≤ l.n) × (l.other_inverse ≡ held_word l.inverses l.lengths l.h) × Kept l.letters l.lengths l.n l.h l.k
-
-abbrev pub decreases-loop-k : goal.decreases-loop-k
-decreases-loop-k l = l.n - l.k
+    (l.other_inverse ≡ held_word l.inverses l.lengths l.h) × Kept l.letters l.lengths l.n l.h l.k

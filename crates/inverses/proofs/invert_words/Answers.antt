@@ -4,10 +4,10 @@ use Rattle.inverses.proofs.Inverting.{inverted_all, inverted-next, inverted-none
 use Rattle.inverses.proofs.invert_words.Goals as goal
 
 pub loop-k-init : goal.loop-k-init
-loop-k-init c = (search rules, search (inverted-none, rules))
+loop-k-init c = (search (inverted-none, rules))
 
 pub loop-k-preserved : goal.loop-k-preserved
-loop-k-preserved c = (search rules, search (inverted-next, rules))
+loop-k-preserved c = (search (inverted-next, rules))
 
 pub returns : goal.returns
 returns c = search (inverted_all, rules)

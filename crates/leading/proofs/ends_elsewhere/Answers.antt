@@ -13,7 +13,7 @@ pub returns-then-met : goal.returns-then-met
 returns-then-met c = search (elsewhere_met, rules)
 
 pub loop-j-preserved : goal.loop-j-preserved
-loop-j-preserved c = (search rules, search rules, search (elsewhere_turn, rules))
+loop-j-preserved c = (search rules, search (elsewhere_turn, rules))
 
 pub returns : goal.returns
 returns c = search (elsewhere_end, rules)

@@ -1,4 +1,3 @@
-use Prim.Native.Nat.{◌≤◌, ◌-◌}
 use mathlib.Core.Bool.{false}
 use mathlib.Core.Path.{◌≡◌}
 use Rattle.leading.specs.Leads.{ends_elsewhere}
@@ -7,7 +6,4 @@ use Rattle.leading.proofs.ends_elsewhere.Given as goal
 
 abbrev pub invariant-loop-j : goal.invariant-loop-j
 invariant-loop-j l =
-    (l.j ≤ l.n) × (l.whole ≡ held_word l.letters l.lengths l.k) × (ends_elsewhere l.j (held l.n l.letters l.lengths) l.k l.inverted ≡ false)
-
-abbrev pub decreases-loop-j : goal.decreases-loop-j
-decreases-loop-j l = l.n - l.j
+    (l.whole ≡ held_word l.letters l.lengths l.k) × (ends_elsewhere l.j (held l.n l.letters l.lengths) l.k l.inverted ≡ false)

@@ -13,7 +13,7 @@ pub returns-then-inverted-clause-found : goal.returns-then-inverted-clause-found
 returns-then-inverted-clause-found c = search (leads-inverted, rules)
 
 pub loop-k-preserved : goal.loop-k-preserved
-loop-k-preserved c = (search rules, search (leads_turn, rules))
+loop-k-preserved c = (search (leads_turn, rules))
 
 pub returns-clause-found : goal.returns-clause-found
 returns-clause-found c = search (leads_end, rules)

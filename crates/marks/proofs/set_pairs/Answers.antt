@@ -6,7 +6,7 @@ use Rattle.marks.proofs.Marking.{set_all, set_begin, set_more}
 use Rattle.marks.proofs.set_pairs.Goals as goal
 
 pub loop-j-init : goal.loop-j-init
-loop-j-init c = (search rules, search rules, set_begin c.args.c c.args.value c.args.marks.now)
+loop-j-init c = (search rules, set_begin c.args.c c.args.value c.args.marks.now)
 
 pub bounds-marks-second : goal.bounds-marks-second
 bounds-marks-second c = simp length-set (omega arith)

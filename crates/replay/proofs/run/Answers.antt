@@ -6,7 +6,7 @@ use Rattle.replay.proofs.Running.{turn_begin, turn_end, turn_fails, turn_makes, 
 use Rattle.replay.proofs.run.Goals as goal
 
 pub loop-done-init : goal.loop-done-init
-loop-done-init c = (search rules, search rules, search rules, search (turn_begin, rules))
+loop-done-init c = (search rules, search rules, search (turn_begin, rules))
 
 pub read_move-requires : goal.read_move-requires
 read_move-requires c = search (passed_move, rules)
@@ -18,7 +18,7 @@ pub returns-in_default-clause-words : goal.returns-in_default-clause-words
 returns-in_default-clause-words c = (λ e. search rules)
 
 pub loop-done-preserved : goal.loop-done-preserved
-loop-done-preserved c = (search rules, search rules, search (turn_passes, rules), search (turn_makes, rules))
+loop-done-preserved c = (search rules, search (turn_passes, rules), search (turn_makes, rules))
 
 pub returns-clause-rules : goal.returns-clause-rules
 returns-clause-rules c = search (each_end, rules)

@@ -1,4 +1,3 @@
-use Prim.Native.Nat.{◌-◌, ◌≤◌}
 use mathlib.Core.Path.{◌≡◌}
 use Rattle.records.specs.Refusals.{each_below}
 use Rattle.slots.specs.Held.{Held, held}
@@ -9,8 +8,5 @@ use Rattle.std.specs.Prelude.{Ok}
 
 abbrev pub invariant-loop-done : goal.invariant-loop-done
 invariant-loop-done l =
-    (l.done ≤ l.count) × Held l.n l.letters l.lengths × (each_below (turn_rule l.backward (held l.n l.initial.letters l.initial.lengths) l.log) l.done ≡ Ok tt)
+    Held l.n l.letters l.lengths × (each_below (turn_rule l.backward (held l.n l.initial.letters l.initial.lengths) l.log) l.done ≡ Ok tt)
     × (held l.n l.letters l.lengths ≡ replayed l.backward (held l.n l.initial.letters l.initial.lengths) (ran_before l.backward (moves_in l.log) l.done))
-
-abbrev pub decreases-loop-done : goal.decreases-loop-done
-decreases-loop-done l = l.count - l.done

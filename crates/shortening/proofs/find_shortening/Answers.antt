@@ -8,7 +8,7 @@ use borrow.Author.Rules.{rules}
 use Rattle.slots.proofs.Holding.{slot-length}
 use Rattle.shortening.proofs.Searching.{changed_begin, others_begin, forms_begin, forms_turn, forms_pass, forms_end, others_stale, others_end, changed_end, changed-below, forms_found, forms_below, pair_inside}
 use Rattle.shortening.proofs.find_shortening.Goals as goal
-use Rattle.shortening.proofs.find_shortening.Goals.{then-close+else-size-c, else-close, then-fresh+else-loop-form-test, else-fresh}
+use Rattle.shortening.proofs.find_shortening.Goals.{then-is_close+else-size-c, else-is_close, then-is_fresh+else-loop-form-test, else-is_fresh}
 
 pub search-init : goal.search-init
 search-init c = (search (changed_begin, rules), search rules)
@@ -29,8 +29,8 @@ length_of-size-requires c =
 pub loop-form-init : goal.loop-form-init
 loop-form-init c = (search (forms_begin, rules), search rules, search rules, search rules, search rules, search rules)
 
-pub is_close-close-requires : goal.is_close-close-requires
-is_close-close-requires c =
+pub is_close-requires : goal.is_close-requires
+is_close-requires c =
     let pair = pair_inside _ _ _ _ _ _ _ _ _ _ _ c.loop-form.invariant.0 in
     record { inside = (c.loop-form-test.true, pair.0, pair.1); held = c.requires.held; inverted = c.requires.inverted }
 
@@ -42,16 +42,16 @@ seam_of-c-requires c =
 pub loop-form-preserved : goal.loop-form-preserved
 loop-form-preserved c =
     let tried = c.loop-form.invariant in (
-      elim c.if-close.branch [
-        | then-close+else-size-c w ↦ forms_turn _ _ _ _ _ _ _ _ _ _ _ tried.0 _ _ w.seam_of-c.ensures.seam tried.2 _ _ _ c.loop-form-test.true
-            w.if-size-c.false w.greatest-most.ensures w.most-is refl
-        | else-close w ↦ forms_pass _ _ _ _ _ _ _ _ _ _ _ tried.0 _ _ c.loop-form-test.true w.most-is refl c.is_close-close.ensures w.if-close.false
+      elim c.if-is_close.branch [
+        | then-is_close+else-size-c w ↦ forms_turn _ _ _ _ _ _ _ _ _ _ _ tried.0 _ _ w.seam_of-c.ensures.seam tried.2 _ _ _ c.loop-form-test.true
+            w.if-size-c.false w.max-most.ensures w.most-is refl
+        | else-is_close w ↦ forms_pass _ _ _ _ _ _ _ _ _ _ _ tried.0 _ _ c.loop-form-test.true w.most-is refl c.is_close.ensures w.if-is_close.false
       ],
       tried.1,
       tried.2,
-      elim c.if-close.branch [
-        | then-close+else-size-c w ↦ omega (arith, tried.3, w.seam_of-c.ensures.most, w.greatest-most.ensures, w.most-is)
-        | else-close w ↦ omega (arith, tried.3, w.most-is)
+      elim c.if-is_close.branch [
+        | then-is_close+else-size-c w ↦ omega (arith, tried.3, w.seam_of-c.ensures.most, w.max-most.ensures, w.most-is)
+        | else-is_close w ↦ omega (arith, tried.3, w.most-is)
       ],
       tried.4,
       tried.5,
@@ -59,11 +59,11 @@ loop-form-preserved c =
 
 pub loop-i-preserved : goal.loop-i-preserved
 loop-i-preserved c = (
-  elim c.if-fresh.branch [
-    | then-fresh+else-loop-form-test w ↦
+  elim c.if-is_fresh.branch [
+    | then-is_fresh+else-loop-form-test w ↦
         let tried = w.loop-form.invariant in
         forms_end _ _ _ _ _ _ _ _ _ _ _ tried.0 _ _ _ _ _ w.marks-is w.found-is tried.1 w.mark.ensures (search rules) (search rules) (search rules)
-    | else-fresh w ↦ search (others_stale, rules)
+    | else-is_fresh w ↦ search (others_stale, rules)
   ],
   search rules,
   search rules,

@@ -1,4 +1,3 @@
-use Prim.Native.Nat.{◌-◌, ◌≤◌}
 use mathlib.Core.Path.{◌≡◌}
 use Rattle.records.specs.Refusals.{each_below}
 use Rattle.moves.specs.Logs.{move_rule}
@@ -6,7 +5,4 @@ use Rattle.moves.proofs.log.check_moves.Given as goal
 use Rattle.std.specs.Prelude.{Ok}
 
 abbrev pub invariant-loop-j : goal.invariant-loop-j
-invariant-loop-j l = (l.j ≤ l.m) × (each_below (move_rule l.n l.log) l.j ≡ Ok tt)
-
-abbrev pub decreases-loop-j : goal.decreases-loop-j
-decreases-loop-j l = l.m - l.j
+invariant-loop-j l = (each_below (move_rule l.n l.log) l.j ≡ Ok tt)

@@ -4,7 +4,7 @@ use Rattle.reduction.proofs.Calls.{rank_all, rank_step}
 use Rattle.reduction.proofs.reduce.rank_of.Goals as goal
 
 pub loop-k-preserved : goal.loop-k-preserved
-loop-k-preserved c = (search rules, search rules, search (rank_step, rules))
+loop-k-preserved c = (search rules, search (rank_step, rules))
 
 pub returns : goal.returns
 returns c = search (rank_all, rules)

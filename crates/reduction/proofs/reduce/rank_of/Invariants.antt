@@ -5,7 +5,4 @@ use Rattle.slots.specs.Held.{held}
 use Rattle.reduction.proofs.reduce.rank_of.Given as goal
 
 abbrev pub invariant-loop-k : goal.invariant-loop-k
-invariant-loop-k l = (l.k ≤ l.n) × (l.count ≤ l.k) × (l.count ≡ rank (held l.k l.letters l.lengths))
-
-abbrev pub decreases-loop-k : goal.decreases-loop-k
-decreases-loop-k l = l.n - l.k
+invariant-loop-k l = (l.count ≤ l.k) × (l.count ≡ rank (held l.k l.letters l.lengths))
