@@ -4,7 +4,7 @@ use Prim.Native.Nat.{◌+◌, ◌<◌, ◌≤◌, suc, ℕ}
 use mathlib.Core.Path.{◌∙◌, ◌≡◌, ap, refl, subst, sym}
 use mathlib.Core.Logic.{◌↔◌, ◌⊎◌, inl, inr}
 use mathlib.Core.Bool.{false}
-use mathlib.Core.Option.{Option, none, some}
+use Rattle.std.specs.Prelude.{Option, None, Some}
 use mathlib.Core.List.{List, [], ◌++◌, ◌∷◌, append_assoc}
 use native.Mathlib.Omega.{arith}
 use native.Mathlib.Decide.{dec_lt}
@@ -14,54 +14,56 @@ use Rattle.records.specs.Refusals.{refusal}
 use Rattle.records.specs.declared.answers.Checked.{Checked}
 use Rattle.records.specs.declared.answers.Checked.TheVariants.{Failed, Fine}
 use Rattle.syntax.specs.Trees.{Begins, MalformedAt, WellFormed}
-use Rattle.syntax.specs.Scan.{Open, State, complete, first, round, scan, second, shape_rule, start, state, state_after, step}
+use Rattle.syntax.specs.Scan.{State, complete, scan, shape_rule, start, state, state_after, step}
+use Rattle.syntax.specs.declared.Open.{Open}
+use Rattle.syntax.specs.declared.Open.TheVariants.{First, Round, Second}
 use Rattle.syntax.specs.declared.Mode.{Mode}
 use Rattle.syntax.specs.declared.Mode.TheVariants.{After, Caret, Minus, OneDigit, Ready}
 use Rattle.systems.proofs.Logic.{bool_cases, true_not_false}
 use Rattle.syntax.proofs.Scanning.{Accepted, Between, after-step, after_stop, complete_between, spelled-accepted, step_close}
 use Rattle.syntax.proofs.Sound.{accepted_well_formed}
 
-impossible : {q : State} → ◌≡◌ {A = Option State} none (some q) → ⊥
+impossible : {q : State} → ◌≡◌ {A = Option State} None (Some q) → ⊥
 impossible e = let z : ◌≡◌ {A = ℕ} 0 1 = cc in omega arith
 
 -- the state after one text and then another
-scan_on : (u v : List ℕ) (q q' : State) → state_after q u ≡ some q' → state_after q (u ++ v) ≡ state_after q' v
+scan_on : (u v : List ℕ) (q q' : State) → state_after q u ≡ Some q' → state_after q (u ++ v) ≡ state_after q' v
 scan_on [] v q q' e = let k : q ≡ q' = cc in ap (λ (x : State). state_after x v) k
 scan_on (b ∷ u) v q q' e = go (step q.mode q.opens b) refl (scan_on u v)
   where
-    go : (o : Option State) → step q.mode q.opens b ≡ o → ((q q' : State) → state_after q u ≡ some q' → state_after q (u ++ v) ≡ state_after q' v) → state_after q (b ∷ (u ++ v)) ≡ state_after q' v
-    go none h ih = absurd (impossible (sym (after_stop q.mode q.opens b u h) ∙ e))
-    go (some p) h ih = after-step q.mode q.opens b (u ++ v) p h ∙ ih p q' (sym (after-step q.mode q.opens b u p h) ∙ e)
+    go : (o : Option State) → step q.mode q.opens b ≡ o → ((q q' : State) → state_after q u ≡ Some q' → state_after q (u ++ v) ≡ state_after q' v) → state_after q (b ∷ (u ++ v)) ≡ state_after q' v
+    go None h ih = absurd (impossible (sym (after_stop q.mode q.opens b u h) ∙ e))
+    go (Some p) h ih = after-step q.mode q.opens b (u ++ v) p h ∙ ih p q' (sym (after-step q.mode q.opens b u p h) ∙ e)
 
 -- a text that is gone through was gone through in its beginning
-scan_back : (u v : List ℕ) (q q' : State) → state_after q (u ++ v) ≡ some q' → (p : State) × (state_after q u ≡ some p)
+scan_back : (u v : List ℕ) (q q' : State) → state_after q (u ++ v) ≡ Some q' → (p : State) × (state_after q u ≡ Some p)
 scan_back [] v q q' e = (q, refl)
 scan_back (b ∷ u) v q q' e = go (step q.mode q.opens b) refl (scan_back u v)
   where
-    go : (o : Option State) → step q.mode q.opens b ≡ o → ((q q' : State) → state_after q (u ++ v) ≡ some q' → (p : State) × (state_after q u ≡ some p)) → (p : State) × (state_after q (b ∷ u) ≡ some p)
-    go none h ih = absurd (impossible (sym (after_stop q.mode q.opens b (u ++ v) h) ∙ e))
-    go (some x) h ih =
+    go : (o : Option State) → step q.mode q.opens b ≡ o → ((q q' : State) → state_after q (u ++ v) ≡ Some q' → (p : State) × (state_after q u ≡ Some p)) → (p : State) × (state_after q (b ∷ u) ≡ Some p)
+    go None h ih = absurd (impossible (sym (after_stop q.mode q.opens b (u ++ v) h) ∙ e))
+    go (Some x) h ih =
         let (p, f) = ih x q' (sym (after-step q.mode q.opens b (u ++ v) x h) ∙ e) in
         (p, after-step q.mode q.opens b u x h ∙ f)
 
 -- what closes the open signs
 abbrev closers : List Open → List ℕ
 closers [] = []
-closers (round ∷ s) = 41 ∷ closers s
-closers (first ∷ s) = 44 ∷ 93 ∷ closers s
-closers (second ∷ s) = 93 ∷ closers s
+closers (Round ∷ s) = 41 ∷ closers s
+closers (First ∷ s) = 44 ∷ 93 ∷ closers s
+closers (Second ∷ s) = 93 ∷ closers s
 
 closes : (m : Mode) (s : List Open) → Between m → Accepted (state m s) (closers s)
 closes m [] h = record { last = state m []; reaches = refl; ends = complete_between m h }
-closes m (round ∷ s) h =
+closes m (Round ∷ s) h =
     let a = closes After s tt in
-    record { last = a.last; reaches = after-step m (round ∷ s) 41 (closers s) _ (step_close m round s h) ∙ a.reaches; ends = a.ends }
-closes m (first ∷ s) h =
+    record { last = a.last; reaches = after-step m (Round ∷ s) 41 (closers s) _ (step_close m Round s h) ∙ a.reaches; ends = a.ends }
+closes m (First ∷ s) h =
     let a = closes After s tt in
-    record { last = a.last; reaches = after-step m (first ∷ s) 44 (93 ∷ closers s) _ (step_close m first s h) ∙ a.reaches; ends = a.ends }
-closes m (second ∷ s) h =
+    record { last = a.last; reaches = after-step m (First ∷ s) 44 (93 ∷ closers s) _ (step_close m First s h) ∙ a.reaches; ends = a.ends }
+closes m (Second ∷ s) h =
     let a = closes After s tt in
-    record { last = a.last; reaches = after-step m (second ∷ s) 93 (closers s) _ (step_close m second s h) ∙ a.reaches; ends = a.ends }
+    record { last = a.last; reaches = after-step m (Second ∷ s) 93 (closers s) _ (step_close m Second s h) ∙ a.reaches; ends = a.ends }
 
 -- every state can be brought to an end
 finish : (m : Mode) (s : List Open) → (r : List ℕ) × Accepted (state m s) r
@@ -79,7 +81,7 @@ pub well_formed-accepted : (r : List ℕ) → WellFormed r → Accepted start r
 well_formed-accepted r w = rw w.spells.spelling at (spelled-accepted w.tree w.spells.proper)
 
 -- the beginnings of well-formed texts are the texts that the scan goes through
-pub scan_begins : (r : List ℕ) (q : State) → state_after start r ≡ some q → Begins r
+pub scan_begins : (r : List ℕ) (q : State) → state_after start r ≡ Some q → Begins r
 scan_begins r q e =
     let (v, a) = finish q.mode q.opens in
     record {
@@ -87,7 +89,7 @@ scan_begins r q e =
       whole = accepted_well_formed (r ++ v) (record { last = a.last; reaches = scan_on r v start q e ∙ a.reaches; ends = a.ends });
     }
 
-pub begins-scan : (r : List ℕ) → Begins r → (q : State) × (state_after start r ≡ some q)
+pub begins-scan : (r : List ℕ) → Begins r → (q : State) × (state_after start r ≡ Some q)
 begins-scan r b =
     let a = well_formed-accepted (r ++ b.rest) b.whole in
     scan_back r b.rest start a.last a.reaches
@@ -104,14 +106,14 @@ begins_shorter r i j h b =
 record Stopped (q : State) (r : List ℕ) (i : ℕ) : Type 0 where
   within : i ≤ length r
   last : State
-  reaches : state_after q (take i r) ≡ some last
-  there : i < length r → state_after q (take (suc i) r) ≡ none
+  reaches : state_after q (take i r) ≡ Some last
+  there : i < length r → state_after q (take (suc i) r) ≡ None
   ends : i ≡ length r → complete last.mode last.opens ≡ false
 
-pub scan_step : (m : Mode) (s : List Open) (b : ℕ) (r : List ℕ) (k : ℕ) (p : State) → step m s b ≡ some p → scan (state m s) (b ∷ r) k ≡ scan p r (k + 1)
+pub scan_step : (m : Mode) (s : List Open) (b : ℕ) (r : List ℕ) (k : ℕ) (p : State) → step m s b ≡ Some p → scan (state m s) (b ∷ r) k ≡ scan p r (k + 1)
 scan_step m s b r k p e = rw e
 
-pub scan_stop : (m : Mode) (s : List Open) (b : ℕ) (r : List ℕ) (k : ℕ) → step m s b ≡ none → scan (state m s) (b ∷ r) k ≡ refusal 16 k
+pub scan_stop : (m : Mode) (s : List Open) (b : ℕ) (r : List ℕ) (k : ℕ) → step m s b ≡ None → scan (state m s) (b ∷ r) k ≡ refusal 16 k
 scan_stop m s b r k e = rw e
 
 scan_says : (r : List ℕ) (q : State) (k : ℕ) → (Accepted q r × (scan q r k ≡ Fine)) ⊎ ((i : ℕ) × Stopped q r i × (scan q r k ≡ refusal 16 (k + i)))
@@ -130,13 +132,13 @@ scan_says (b ∷ r) q k = go (step q.mode q.opens b) refl (scan_says r)
     go : (o : Option State) → step q.mode q.opens b ≡ o
         → ((q : State) (k : ℕ) → (Accepted q r × (scan q r k ≡ Fine)) ⊎ ((i : ℕ) × Stopped q r i × (scan q r k ≡ refusal 16 (k + i))))
         → (Accepted q (b ∷ r) × (scan q (b ∷ r) k ≡ Fine)) ⊎ ((i : ℕ) × Stopped q (b ∷ r) i × (scan q (b ∷ r) k ≡ refusal 16 (k + i)))
-    go none e ih =
+    go None e ih =
         inr (
           0,
           record { within = omega arith; last = q; reaches = refl; there = λ x. after_stop q.mode q.opens b [] e; ends = λ x. absurd (omega arith) },
           scan_stop q.mode q.opens b r k e ∙ ap (refusal 16) next_place,
         )
-    go (some p) e ih = elim (ih p (k + 1)) [
+    go (Some p) e ih = elim (ih p (k + 1)) [
       | inl (a, s) ↦ inl (record { last = a.last; reaches = after-step q.mode q.opens b r p e ∙ a.reaches; ends = a.ends }, scan_step q.mode q.opens b r k p e ∙ s)
       | inr (i, t, s) ↦
           inr (
@@ -169,7 +171,7 @@ stopped-malformed r i t =
       ];
     }
   where
-    same-state : {p q : State} → some p ≡ some q → p ≡ q
+    same-state : {p q : State} → Some p ≡ Some q → p ≡ q
     same-state e = cc
 
 malformed_once : (r : List ℕ) (i j : ℕ) → MalformedAt r i → MalformedAt r j → i ≡ j

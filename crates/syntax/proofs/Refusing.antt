@@ -3,7 +3,7 @@ use Prim.Native.Nat.{◌+◌, ◌<◌, ◌≤◌, suc, zero, ℕ}
 use mathlib.Core.Path.{◌≡◌, refl, sym}
 use mathlib.Core.Logic.{◌↔◌, inl, inr}
 use mathlib.Core.Bool.{◌||◌, cond, false, true}
-use mathlib.Core.Option.{Option, none, some}
+use Rattle.std.specs.Prelude.{Option, None, Some}
 use mathlib.Core.List.{List, [], ◌∷◌}
 use native.Mathlib.Omega.{arith}
 use lib.Dec.{eqb, leb}
@@ -33,8 +33,8 @@ scan_never n h [] q k = elim (bool_cases (complete q.mode q.opens)) [
 scan_never n h (b ∷ r) q k = go (step q.mode q.opens b) refl (scan_never n h r)
   where
     go : (o : Option State) → step q.mode q.opens b ≡ o → ((q : State) (k : ℕ) → Never n (scan q r k)) → Never n (scan q (b ∷ r) k)
-    go none e ih = rw (scan_stop q.mode q.opens b r k e) (other_never n 16 k h)
-    go (some p) e ih = rw (scan_step q.mode q.opens b r k p e) (ih p (k + 1))
+    go None e ih = rw (scan_stop q.mode q.opens b r k e) (other_never n 16 k h)
+    go (Some p) e ih = rw (scan_step q.mode q.opens b r k p e) (ih p (k + 1))
 
 shape_never : (n : ℕ) → (16 ≡ n → ⊥) → (text : List ℕ) → Never n (shape_rule text)
 unfolding shape_rule
