@@ -1,4 +1,5 @@
 pub mod Alphabet
 pub mod Words
 pub mod Buffers
+pub mod Writers
 pub mod Below

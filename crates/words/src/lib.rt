@@ -5,3 +5,4 @@ pub mod cancel;
 pub mod free_reduction;
 pub mod letters;
 pub mod product;
+pub mod writer;
