@@ -18,7 +18,7 @@ pub struct Reading {
     pub used: usize,
 }
 
-// The product at the beginning of a text in which so many more signs may nest.
+// The product at the beginning of a text in which so many more signs may nest; each turn goes on by what the factor reader read.
 #[cycle(reader)]
 pub fn product(text: &[u8], room: usize) -> Reading
     requires { Readable room text.now }

@@ -1,7 +1,6 @@
 -- What a writer wrote: some bytes after others, and all of them from the beginning of the buffer.
 use base.Fml.{GName}
-use Rattle.std.proofs.Common.{ℕ, ◌≡◌, ◌∙◌, refl, sym, List, [], ◌++◌, arith, length, length-append}
-use Rattle.std.proofs.lemmas.List.{take-append-drop}
+use Rattle.std.proofs.Common.{ℕ, ◌≡◌, ◌∙◌, sym, List, ◌++◌, arith, length, length-append}
 use Rattle.words.specs.Buffers.{written}
 use Rattle.words.specs.Writers.{Puts}
 use Rattle.words.specs.declared.writer.Writer.{Writer}
@@ -23,6 +22,3 @@ puts_whole a b w old text all back lent same start = back (sym lent ∙ sym all.
 
 pub puts_length : (a b : Writer) (w : List ℕ) {n : ℕ} → Puts a w b → a.at ≡ 0 → n ≡ b.at → n ≡ length w
 puts_length a b w all start told = omega (arith, all.place)
-
-pub puts_none : (a : Writer) → Puts a [] a
-puts_none a = record { same_buffer = refl; size = refl; place = omega arith; buffer = sym (take-append-drop a.at a.buffer.now) }

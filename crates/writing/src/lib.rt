@@ -1,7 +1,7 @@
 // The text of a word, written run by run.
 #![tactic(auto)]
 
-ghost use Rattle.std.specs.Prelude.{◌*◌, ◌+◌, ◌<◌, ◌≤◌, ◌∷◌, ◌≡◌, get_or, length};
+ghost use Rattle.std.specs.Prelude.{◌*◌, ◌+◌, ◌<◌, ◌≤◌, ◌∷◌, ◌≡◌, ℕ, get_or, length};
 ghost use Rattle.words.specs.Buffers.{written};
 ghost use Rattle.words.specs.Writers.{Puts};
 ghost use Rattle.syntax.specs.WordTexts.{numeral, power_text, run, run_text, text_of};
@@ -20,14 +20,26 @@ pub fn write_word(word: &[u8], text: &mut [u8]) -> usize
     writer.len()
 }
 
-// Writes the text of a word, run by run.
+// Writes the text of a word, run by run; std's chunk_by, which compares neighbours, was slower on long runs.
 fn put_word(word: &[u8], text: &mut Writer)
     requires { (length word.now ≤ 63) × (text.old.at + 128 ≤ length text.old.buffer.now) }
     ensures { Puts text.old (text_of word.now) text.new }
 {
-    for run in word.chunk_by(|a, b| a == b) {
-        put_run(run[0], run.len(), text);
+    let mut rest = word;
+    while let [letter, others @ ..] = rest {
+        let more = repeats(others, *letter);
+        put_run(*letter, 1 + more, text);
+        rest = &others[more..];
     }
+}
+
+// How often a word begins with a letter.
+fn repeats(word: &[u8], letter: u8) -> usize
+    ensures within { result ≤ length word.now }
+    ensures same { (i : ℕ) → i < result → get_or word.now i 0 ≡ letter }
+    ensures longest { result < length word.now → get_or word.now result 0 ≡ letter → ⊥ }
+{
+    word.iter().position(|x| *x != letter).unwrap_or(word.len())
 }
 
 // Writes the text of a run.
