@@ -132,7 +132,7 @@ starts-after room s t rest h =
 
 -- a text that begins with a factor has a tree that does
 starts_full : (room : ℕ) (b : ℕ) (s : List ℕ) (t : Product) (rest : List ℕ) → StartsWith room (b ∷ s) t rest → starts_factor b ≡ true → NotEmpty t
-starts_full room b s nothing [] h e = let z : ◌≡◌ {A = ℕ} 0 1 = cc h.same in absurd (omega arith)
+starts_full room b s nothing [] h e = cc h.same
 starts_full room b s nothing (x ∷ rest) h e =
     let z : b ≡ x = cc h.same in
     absurd (true_not_false _ (rw z at e) h.stops.0)

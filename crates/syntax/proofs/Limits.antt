@@ -67,7 +67,7 @@ module _ (number limit : ℕ) where
       )
 
   passed_or : {k : ℕ} → Fine ≡ refusal number k → ⊥
-  passed_or e = let z : ◌≡◌ {A = ℕ} 0 1 = cc in omega arith
+  passed_or e = cc
 
   abbrev place_of : Checked → ℕ
   place_of Fine = 0

@@ -23,16 +23,13 @@ use Rattle.systems.proofs.Logic.{bool_cases, true_not_false}
 use Rattle.syntax.proofs.Scanning.{Accepted, Between, after-step, after_stop, complete_between, spelled-accepted, step_close}
 use Rattle.syntax.proofs.Sound.{accepted_well_formed}
 
-impossible : {q : State} → ◌≡◌ {A = Option State} None (Some q) → ⊥
-impossible e = let z : ◌≡◌ {A = ℕ} 0 1 = cc in omega arith
-
 -- the state after one text and then another
 scan_on : (u v : List ℕ) (q q' : State) → state_after q u ≡ Some q' → state_after q (u ++ v) ≡ state_after q' v
 scan_on [] v q q' e = let k : q ≡ q' = cc in ap (λ (x : State). state_after x v) k
 scan_on (b ∷ u) v q q' e = go (step q.mode q.opens b) refl (scan_on u v)
   where
     go : (o : Option State) → step q.mode q.opens b ≡ o → ((q q' : State) → state_after q u ≡ Some q' → state_after q (u ++ v) ≡ state_after q' v) → state_after q (b ∷ (u ++ v)) ≡ state_after q' v
-    go None h ih = absurd (impossible (sym (after_stop q.mode q.opens b u h) ∙ e))
+    go None h ih = cc (sym (after_stop q.mode q.opens b u h) ∙ e)
     go (Some p) h ih = after-step q.mode q.opens b (u ++ v) p h ∙ ih p q' (sym (after-step q.mode q.opens b u p h) ∙ e)
 
 -- a text that is gone through was gone through in its beginning
@@ -41,7 +38,7 @@ scan_back [] v q q' e = (q, refl)
 scan_back (b ∷ u) v q q' e = go (step q.mode q.opens b) refl (scan_back u v)
   where
     go : (o : Option State) → step q.mode q.opens b ≡ o → ((q q' : State) → state_after q (u ++ v) ≡ Some q' → (p : State) × (state_after q u ≡ Some p)) → (p : State) × (state_after q (b ∷ u) ≡ Some p)
-    go None h ih = absurd (impossible (sym (after_stop q.mode q.opens b (u ++ v) h) ∙ e))
+    go None h ih = cc (sym (after_stop q.mode q.opens b (u ++ v) h) ∙ e)
     go (Some x) h ih =
         let (p, f) = ih x q' (sym (after-step q.mode q.opens b (u ++ v) x h) ∙ e) in
         (p, after-step q.mode q.opens b u x h ∙ f)
@@ -159,20 +156,17 @@ stopped-malformed r i t =
     record {
       within = t.within;
       before = scan_begins (take i r) t.last t.reaches;
-      there = λ h b. impossible (sym (t.there h) ∙ (begins-scan (take (suc i) r) b).1);
+      there = λ h b. cc (sym (t.there h) ∙ (begins-scan (take (suc i) r) b).1);
       malformed = λ w. elim (dec_lt i (length r)) [
-        | yes h ↦ impossible (sym (t.there h) ∙ (scan_back (take (suc i) r) (drop (suc i) r) start (well_formed-accepted r w).last (rw take-append-drop (well_formed-accepted r w).reaches)).1)
+        | yes h ↦ cc (sym (t.there h) ∙ (scan_back (take (suc i) r) (drop (suc i) r) start (well_formed-accepted r w).last (rw take-append-drop (well_formed-accepted r w).reaches)).1)
         | no n ↦
             let z : i ≡ length r = omega (arith, t.within) in
             let e : take i r ≡ r = rw z (take-length r) in
             let a = well_formed-accepted r w in
-            let k : t.last ≡ a.last = same-state (sym t.reaches ∙ ap (state_after start) e ∙ a.reaches) in
+            let k : t.last ≡ a.last = cc (sym t.reaches ∙ ap (state_after start) e ∙ a.reaches) in
             true_not_false _ (rw k a.ends) (t.ends z)
       ];
     }
-  where
-    same-state : {p q : State} → Some p ≡ Some q → p ≡ q
-    same-state e = cc
 
 malformed_once : (r : List ℕ) (i j : ℕ) → MalformedAt r i → MalformedAt r j → i ≡ j
 malformed_once r i j a b = elim (dec_lt i j) [
@@ -184,7 +178,7 @@ malformed_once r i j a b = elim (dec_lt i j) [
 ]
 
 passed_or : {k : ℕ} → Fine ≡ refusal 16 k → ⊥
-passed_or e = let z : ◌≡◌ {A = ℕ} 0 1 = cc in omega arith
+passed_or e = cc
 
 abbrev place_of : Checked → ℕ
 place_of Fine = 0
