@@ -1,31 +1,27 @@
 -- The two readers: what each finds at the beginning of a text, and what the product's loop keeps.
 use Prim.Native.Nat.{◌*◌, ◌+◌, ◌-◌, ◌<◌, ◌^◌, ◌≤◌, suc, zero, ℕ}
 use mathlib.Core.Path.{◌∙◌, ◌≡◌, ap, refl, sym}
-use mathlib.Core.Bool.{Bool, false, not, true}
+use mathlib.Core.Bool.{Bool, false, true}
 use Rattle.std.specs.Prelude.{Option, Some}
+use Rattle.std.specs.Prelude.{IfSome}
 use mathlib.Core.List.{List, [], ◌++◌, ◌∷◌, append_assoc}
 use native.Mathlib.Omega.{arith}
 use lib.ListN.{drop, get_or, length, length-append, length-drop, take}
 use lib.Seq.{drop_at, drop-cons, drop-drop}
-use lib.Dec.{eqb}
 use mir.Syntax.{w64}
 use mir.Val.{Fits}
-use borrow.Author.Tests.{eq-eqb, ne_eqb, not-false, not-true}
-use Rattle.records.specs.Records.{is_letter}
-use Rattle.syntax.specs.Trees.{Power, Product, Proper, ProperPower, bracket, group, is_digit, letter, nothing, spelled, spelled_power}
+use Rattle.syntax.specs.Trees.{Power, Product, Proper, ProperPower, bracket, group, letter, nothing, spelled, spelled_power}
 use Rattle.syntax.specs.Within.{NestsWithin, PowerWithin, PowersWithin}
-use Rattle.powers.specs.Bounded.{Sound, commute_of, held, join_of, raise_of, word_in}
-use Rattle.scanning.specs.Exponents.{digits_size, exponent_of}
-use mathlib.Core.Logic.{inl, inr}
-use Rattle.scanning.specs.declared.exponent.Exponent.{Exponent}
-use Rattle.parsing.specs.Reading.{FactorReads, PowerReads, ProductReads, ReadAll, ReadFirst, Readable, StartsWith, Stops, first_size, first_word, raised_by, read_after, starts_factor}
+use Rattle.powers.specs.Bounded.{Sound, commute_of, held, join_of, word_in}
+use Rattle.scanning.specs.Exponents.{exponent_of}
+use Rattle.parsing.specs.Reading.{FactorReads, PowerReads, ProductReads, ReadAll, ReadFirst, Readable, StartsWith, Stops, first_size, first_word, read_after, starts_factor}
 use Rattle.powers.specs.declared.Word.{Word}
 use Rattle.parsing.specs.declared.Reading.{Reading}
-use Rattle.systems.proofs.Logic.{bool_cases, true_not_false}
+use Rattle.systems.proofs.Logic.{true_not_false}
 use Rattle.words.proofs.Buffers.{rest_part}
 use Rattle.syntax.proofs.Bytes.{letter_no_digit, letter_no_sign}
 use Rattle.syntax.proofs.Parsing.{Quiet}
-use Rattle.parsing.proofs.Exponents.{exponent_for_lem, exponent_for, number_for, raise_for, used_for}
+use Rattle.parsing.proofs.Exponents.{exponent_for_lem, exponent_for, number_for, raise_for, size_for}
 
 -- three times the length of a text bounds the readers' calls, with one more for the factor's and two for the product's
 shorter : (s : List ℕ) (k n t : ℕ) → 0 < length s → 0 < k → length s * 3 ≤ t → n < 3 → length (take (length s - k) (drop k s)) * 3 + n < t
@@ -136,7 +132,7 @@ starts-after room s t rest h =
 
 -- a text that begins with a factor has a tree that does
 starts_full : (room : ℕ) (b : ℕ) (s : List ℕ) (t : Product) (rest : List ℕ) → StartsWith room (b ∷ s) t rest → starts_factor b ≡ true → NotEmpty t
-starts_full room b s nothing [] h e = let z : ◌≡◌ {A = ℕ} 0 1 = cc h.same in absurd (omega arith)
+starts_full room b s nothing [] h e = cc h.same
 starts_full room b s nothing (x ∷ rest) h e =
     let z : b ≡ x = cc h.same in
     absurd (true_not_false _ (rw z at e) h.stops.0)
@@ -188,19 +184,19 @@ module _ (room : ℕ) (text : List ℕ) (word : Word) (at : ℕ) (kept : Product
       (o, rw (← drop-cons text at 0 inside) o.starts)
 
   -- no factor begins
-  pub read_all : (r : Bool) → r ≡ starts_factor (get_or text at 0) → not r ≡ true → ProductReads room text (record { word = word; used = at })
+  pub read_all : (r : Bool) → r ≡ starts_factor (get_or text at 0) → r ≡ false → ProductReads room text (record { word = word; used = at })
   read_all r p e t rest h =
       let (o, s) = onward_here t rest h in
-      let z : o.tree ≡ nothing = starts_none room (get_or text at 0) (drop (suc at) text) o.tree rest s (sym p ∙ not-true r e) in
+      let z : o.tree ≡ nothing = starts_none room (get_or text at 0) (drop (suc at) text) o.tree rest s (sym p ∙ e) in
       record {
         used = sym (o.used ∙ rw z (omega arith));
         word = rw z at o.same;
       }
 
-  module _ (r : Bool) (p : r ≡ starts_factor (get_or text at 0)) (e : not r ≡ false) where
+  module _ (r : Bool) (p : r ≡ starts_factor (get_or text at 0)) (e : r ≡ true) where
     full : (t : Product) (rest : List ℕ) (h : StartsWith room text t rest) → NotEmpty (kept.onward t rest h).tree
     unfolding onward_here
-    full t rest h = starts_full room (get_or text at 0) (drop (suc at) text) (onward_here t rest h).0.tree rest (onward_here t rest h).1 (sym p ∙ not-false r e)
+    full t rest h = starts_full room (get_or text at 0) (drop (suc at) text) (onward_here t rest h).0.tree rest (onward_here t rest h).1 (sym p ∙ e)
 
     pub factor_readable : Readable room (take (length text - at) (drop at text))
     factor_readable =
@@ -212,7 +208,7 @@ module _ (room : ℕ) (text : List ℕ) (word : Word) (at : ℕ) (kept : Product
     factor_full = rw (rest_part) (omega (arith, length-drop at text))
 
     pub factor_starts : starts_factor (get_or (take (length text - at) (drop at text)) 0 0) ≡ true
-    factor_starts = rw (rest_part, drop-cons text at 0 inside) (sym p ∙ not-false r e)
+    factor_starts = rw (rest_part, drop-cons text at 0 inside) (sym p ∙ e)
 
     module _ (next : Reading) (reads : FactorReads room (take (length text - at) (drop at text)) next) where
       first_read : (t : Product) (rest : List ℕ) (h : StartsWith room text t rest) → ReadFirst (kept.onward t rest h).tree next
@@ -297,7 +293,7 @@ power_at_lem text u at p t rest e l f w h k =
       inside = omega (arith, ap length e, length-append u (spelled_power p ++ (spelled t ++ rest)));
     }
 
-number_at : {text : List ℕ} {at : ℕ} {p : Power} → PowerAt text at p → (exponent_of (drop at text)).number ≤ 63
+number_at : {text : List ℕ} {at : ℕ} {p : Power} → PowerAt text at p → IfSome (exponent_of (drop at text)) (λ e. e.number ≤ 63)
 number_at {p = p} a = rw a.same (number_for p a.within)
 
 -- what stands at the beginning of a text
@@ -423,7 +419,7 @@ module _ (text : List ℕ) (full : 0 < length text) (begins : starts_factor (get
 -- the factor reader's text, and its first byte
 module _ (room : ℕ) (text : List ℕ) (full : 0 < length text) (begins : starts_factor (get_or text 0 0) ≡ true) where
   module _ (no-group : get_or text 0 0 ≡ 40 → ⊥) (no-bracket : get_or text 0 0 ≡ 91 → ⊥) where
-    pub letter_power : Readable room text → (exponent_of (drop 1 text)).number ≤ 63
+    pub letter_power : Readable room text → IfSome (exponent_of (drop 1 text)) (λ e. e.number ≤ 63)
     letter_power r = number_at (letter_here text full begins room r.tree r.rest r.starts no-group no-bracket).power_at
 
     pub read_letter : (word : Word) (r : Reading) → word_in word ≡ Some (get_or text 0 0 ∷ []) → PowerReads text 1 word r → FactorReads room text r
@@ -431,7 +427,7 @@ module _ (room : ℕ) (text : List ℕ) (full : 0 < length text) (begins : start
         let l = letter_here text full begins room t rest h no-group no-bracket in
         let a = l.power_at in
         rw l.is (record {
-          used = q.used ∙ rw (a.same, used_for);
+          used = q.used ∙ rw (a.same, size_for);
           word = q.word ∙ rw (a.same, w, l.here) (raise_for l.power (Some (l.byte ∷ [])));
         })
 
@@ -455,7 +451,7 @@ module _ (room : ℕ) (text : List ℕ) (full : 0 < length text) (begins : start
           let g = group_here text full begins room r.tree r.rest r.starts opens in
           omega (arith, (group_read r.tree r.rest r.starts).used, g.power_at.inside)
 
-      pub group_power : Readable room text → (exponent_of (drop (inner.used + 2) text)).number ≤ 63
+      pub group_power : Readable room text → IfSome (exponent_of (drop (inner.used + 2) text)) (λ e. e.number ≤ 63)
       group_power r =
           let g = group_here text full begins room r.tree r.rest r.starts opens in
           rw (group_read r.tree r.rest r.starts).used (number_at g.power_at)
@@ -466,7 +462,7 @@ module _ (room : ℕ) (text : List ℕ) (full : 0 < length text) (begins : start
           let f = group_read t rest h in
           let e : exponent_of (drop (inner.used + 2) text) ≡ exponent_for g.power = rw f.used g.power_at.same in
           rw g.is (record {
-            used = q.used ∙ rw (e, used_for, f.used);
+            used = q.used ∙ rw (e, size_for, f.used);
             word = q.word ∙ rw (e, f.word) (raise_for g.power (read_after (Some []) g.inner));
           })
 
@@ -513,7 +509,7 @@ module _ (room : ℕ) (text : List ℕ) (opens : get_or text 0 0 ≡ 91) where
       pub bracket-before_end : Readable room text → u.used + 2 + v.used ≤ length text
       bracket-before_end r = omega (arith, bracket_end r)
 
-      pub bracket_power : Readable room text → (exponent_of (drop (u.used + 2 + v.used + 1) text)).number ≤ 63
+      pub bracket_power : Readable room text → IfSome (exponent_of (drop (u.used + 2 + v.used + 1) text)) (λ e. e.number ≤ 63)
       bracket_power r =
           let g = bracket_at r.tree r.rest r.starts in
           rw ((one_read r.tree r.rest r.starts).used, (two_read r.tree r.rest r.starts).used) (number_at g.power_at)
@@ -526,7 +522,7 @@ module _ (room : ℕ) (text : List ℕ) (opens : get_or text 0 0 ≡ 91) where
           let b = two_read t rest h in
           let e : exponent_of (drop (u.used + 2 + v.used + 1) text) ≡ exponent_for g.power = rw (a.used, b.used) g.power_at.same in
           rw g.is (record {
-            used = q.used ∙ rw (e, used_for, a.used, b.used);
+            used = q.used ∙ rw (e, size_for, a.used, b.used);
             word = q.word ∙ rw (e, w, a.word, b.word) (raise_for g.power (commute_of (read_after (Some []) g.one) (read_after (Some []) g.two)));
           })
 
@@ -535,61 +531,3 @@ pub read_bracket : (room : ℕ) (text : List ℕ) (u v r : Reading) (word : Word
     → ProductReads (room - 1) (take (length text - (u.used + 2)) (drop (u.used + 2) text)) v → get_or text 0 0 ≡ 91
     → FactorReads room text r
 read_bracket room text u v r word q w a b opens = bracket_read room text opens u a v b word r w q
-
--- the power's struct, from the part of a text
-size-within : (s : List ℕ) → digits_size s ≤ length s
-size-within [] = omega arith
-size-within (d ∷ []) = omega arith
-size-within (d ∷ e ∷ s) = elim (bool_cases (is_digit e)) [
-  | inl h ↦ rw h (omega arith)
-  | inr h ↦ rw h (omega arith)
-]
-
-used-within : (s : List ℕ) → (exponent_of s).used ≤ length s
-used-within [] = omega arith
-used-within (b ∷ []) = omega arith
-used-within (b ∷ c ∷ s) = elim (bool_cases (eqb b 94)) [
-  | inl h ↦ elim (bool_cases (eqb c 45)) [
-    | inl k ↦ rw (h, k) (omega (arith, size-within s))
-    | inr k ↦ rw (h, k) (omega (arith, size-within (c ∷ s)))
-  ]
-  | inr h ↦ rw h (omega arith)
-]
-
-module _ (text : List ℕ) (at : ℕ) (r : Exponent) (e : r ≡ exponent_of (take (length text - at) (drop at text))) where
-  whole_power : r ≡ exponent_of (drop at text)
-  whole_power = e ∙ ap exponent_of (rest_part text at)
-
-  pub power_end : at ≤ length text → at + r.used ≤ length text
-  power_end h =
-      let u : r.used ≡ (exponent_of (drop at text)).used = ap (λ (x : Exponent). x.used) whole_power in
-      omega (arith, u, used-within (drop at text), length-drop at text)
-
-  pub power_number : (exponent_of (drop at text)).number ≤ 63 → r.number ≤ 63
-  power_number h =
-      let u : r.number ≡ (exponent_of (drop at text)).number = ap (λ (x : Exponent). x.number) whole_power in
-      omega arith
-
-  power_reads : (w longer : Word) → word_in longer ≡ raised_by r (word_in w) → PowerReads text at w (record { word = longer; used = at + r.used })
-  power_reads w longer h =
-      record {
-        used = ap (λ (x : Exponent). at + x.used) whole_power;
-        word = h ∙ ap (λ (x : Exponent). raised_by x (word_in w)) whole_power;
-      }
-
-  pub no_power : (w : Word) → not r.present ≡ true → PowerReads text at w (record { word = w; used = at + r.used })
-  no_power w n = power_reads w w (rw (not-true r.present n))
-
-  pub some_power : (w longer : Word) → not r.present ≡ false → word_in longer ≡ raise_of r.minus r.number (word_in w)
-      → PowerReads text at w (record { word = longer; used = at + r.used })
-  some_power w longer n h = power_reads w longer (rw (not-false r.present n) h)
-
--- a byte that starts a factor
-pub starts-letter : (b : ℕ) {r : Bool} → r ≡ is_letter b → r ≡ true → true ≡ starts_factor b
-starts-letter b p e = rw (← p, e)
-
-pub starts-group : (b : ℕ) {r : Bool} → r ≡ is_letter b → r ≡ false → b ≡ 40 → true ≡ starts_factor b
-starts-group b p e f = rw (← p, e, eq-eqb b 40 f)
-
-pub starts-bracket : (b : ℕ) {r : Bool} → r ≡ is_letter b → r ≡ false → (b ≡ 40 → ⊥) → eqb b 91 ≡ starts_factor b
-starts-bracket b p e f = rw (← p, e, ne_eqb b 40 f)

@@ -1,12 +1,12 @@
 -- What the product reader and the factor reader find at the beginning of a text. No public contract speaks of it.
-use Rattle.std.specs.Prelude.{◌+◌, ℕ, ◌≡◌, Bool, ◌||◌, cond, false, List, [], ◌++◌, ◌∷◌, eqb, drop, length}
+use Rattle.std.specs.Prelude.{◌+◌, ℕ, ◌≡◌, Bool, ◌||◌, false, List, [], ◌++◌, ◌∷◌, None, Some, eqb, drop, length}
 use Rattle.std.specs.Prelude.{Option, Some}
 use Rattle.records.specs.Records.{is_letter}
 use Rattle.syntax.specs.Trees.{Power, Product, Proper, bracket, group, is_digit, letter, nothing, plain, raised, spelled, spelled_power}
 use Rattle.syntax.specs.TreeWords.{number_of}
 use Rattle.syntax.specs.Limits.{bracket_size, group_size}
 use Rattle.syntax.specs.Within.{NestsWithin, PowersWithin}
-use Rattle.scanning.specs.Exponents.{exponent_of}
+use Rattle.scanning.specs.Exponents.{exponent_of, exponent_size}
 use Rattle.scanning.specs.declared.exponent.Exponent.{Exponent}
 use Rattle.powers.specs.Bounded.{commute_of, join_of, raise_of, word_in}
 use Rattle.powers.specs.declared.Word.{Word}
@@ -74,11 +74,12 @@ pub record ReadFirst (t : Product) (r : Reading) : Type 0 where
 abbrev pub FactorReads : ℕ → List ℕ → Reading → Type 0
 FactorReads room text r = (t : Product) (rest : List ℕ) → StartsWith room text t rest → ReadFirst t r
 
--- a word with the power that a struct holds
-abbrev pub raised_by : Exponent → Option (List ℕ) → Option (List ℕ)
-raised_by e w = cond e.present (raise_of e.minus e.number w) w
+-- a word with the power that was found, if one was
+abbrev pub raised_by : Option Exponent → Option (List ℕ) → Option (List ℕ)
+raised_by None w = w
+raised_by (Some e) w = raise_of e.minus e.number w
 
 -- a word with the power at a place of a text
 pub record PowerReads (text : List ℕ) (at : ℕ) (w : Word) (r : Reading) : Type 0 where
-  pub used : r.used ≡ at + (exponent_of (drop at text)).used
+  pub used : r.used ≡ at + exponent_size (exponent_of (drop at text))
   pub word : word_in r.word ≡ raised_by (exponent_of (drop at text)) (word_in w)

@@ -1,7 +1,7 @@
 // The product reader and the factor reader, which call each other: the freely reduced word of a text that 16, 17 and 18 let through.
 #![tactic(auto)]
 
-ghost use Rattle.std.specs.Prelude.{◌<◌, ◌≤◌, true, ◌≡◌, drop, get_or, length};
+ghost use Rattle.std.specs.Prelude.{◌<◌, ◌≤◌, true, ◌≡◌, IfSome, drop, get_or, length};
 ghost use Rattle.scanning.specs.Exponents.{exponent_of};
 ghost use Rattle.powers.specs.Bounded.{Sound};
 ghost use Rattle.parsing.specs.Reading.{FactorReads, PowerReads, ProductReads, Readable, starts_factor};
@@ -18,7 +18,7 @@ pub struct Reading {
     pub used: usize,
 }
 
-// The product at the beginning of a text in which so many more signs may nest.
+// The product at the beginning of a text in which so many more signs may nest; each turn goes on by what the factor reader read.
 #[cycle(reader)]
 pub fn product(text: &[u8], room: usize) -> Reading
     requires { Readable room text.now }
@@ -28,15 +28,9 @@ pub fn product(text: &[u8], room: usize) -> Reading
     let mut letters = [0u8; 128];
     let mut length = 0;
     let mut at = 0;
-    while at < text.len() {
-        let more = starts(text[at]);
-        if !more {
-            let word = Word { letters, length };
-            return Reading { word, used: at };
-        }
+    while at < text.len() && starts(text[at]) {
         let next = factor(&text[at..], room);
-        let second = next.word;
-        length = append(&mut letters, length, second);
+        length = append(&mut letters, length, next.word);
         at += next.used;
     }
     let word = Word { letters, length };
@@ -51,18 +45,15 @@ fn factor(text: &[u8], room: usize) -> Reading
     ensures sound { Sound result.word }
     ensures reads { FactorReads room text.now result }
 {
-    let b = text[0];
-    if b == BRACKET_OPENS {
-        return bracket(text, room);
+    match text[0] {
+        BRACKET_OPENS => bracket(text, room),
+        GROUP_OPENS => {
+            let inner = product(&text[1..], room - 1);
+            let end = inner.used + 2;
+            powered(inner.word, text, end)
+        }
+        letter => powered(single(letter), text, 1),
     }
-    if b == GROUP_OPENS {
-        let inner = product(&text[1..], room - 1);
-        let word = inner.word;
-        let end = inner.used + 2;
-        return powered(word, text, end);
-    }
-    let word = single(b);
-    powered(word, text, 1)
 }
 
 // The bracket at the beginning of a text that starts with one.
@@ -85,29 +76,20 @@ fn bracket(text: &[u8], room: usize) -> Reading
 fn starts(b: u8) -> bool
     ensures { result ≡ starts_factor b }
 {
-    let letter = is_letter(b);
-    if letter {
-        return true;
-    }
-    if b == GROUP_OPENS {
-        true
-    } else {
-        b == BRACKET_OPENS
-    }
+    is_letter(b) || matches!(b, GROUP_OPENS | BRACKET_OPENS)
 }
 
 // A factor's word with the power that stands at a place of a text, if one does.
 fn powered(word: Word, text: &[u8], at: usize) -> Reading
     requires sound { Sound word }
-    requires within { (at ≤ length text.now) × ((exponent_of (drop at text.now)).number ≤ 63) }
+    requires within { (at ≤ length text.now) × IfSome (exponent_of (drop at text.now)) (λ power. power.number ≤ 63) }
     ensures sound { Sound result.word }
     ensures reads { PowerReads text.now at word result }
 {
-    let exponent = read_exponent(&text[at..]);
-    let used = at + exponent.used;
-    if !exponent.present {
-        return Reading { word, used };
-    }
-    let word = raise(word, exponent.minus, exponent.number);
+    let Some(power) = read_exponent(&text[at..]) else {
+        return Reading { word, used: at };
+    };
+    let word = raise(word, power.minus, power.number);
+    let used = at + power.used;
     Reading { word, used }
 }

@@ -1,4 +1,2 @@
--- Laws of the scans of a text, which the proofs of several functions cite.
-pub mod Exponents
-pub mod Nesting
-pub mod Signs
+-- Laws of the scans of a text.
+pub mod Steps

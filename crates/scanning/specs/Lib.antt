@@ -1,2 +1,2 @@
 pub mod Exponents
-pub mod Signs
+pub mod Room

@@ -1,16 +1,17 @@
 // Refusals 16, 17 and 18, each tried over the whole text in this order.
-ghost use Rattle.std.specs.Prelude.{◌<◌, ◌≤◌, ◌≡◌, length};
-ghost use Rattle.syntax.specs.Rules.{exponent_rule, nesting_rule, text_rules};
-ghost use Rattle.scanning.specs.Signs.{is_opening, room_after};
+ghost use Rattle.std.specs.Prelude.{◌≤◌, ◌≡◌, length};
+ghost use Rattle.syntax.specs.Parse.{power_of};
+ghost use Rattle.syntax.specs.Rules.{exponent_rule, nesting_rule, power_within, text_rules};
+ghost use Rattle.scanning.specs.Room.{room_after};
 
 use crate::exponent::read_exponent;
 use crate::shape::check_shape;
-use records::answers::{Refusal, check_that};
+use records::answers::{Refusal, check_that, refuse};
 use records::refusals::Reason;
 use syntax::{BRACKET_CLOSES, BRACKET_OPENS, GROUP_CLOSES, GROUP_OPENS};
 
 // The most bytes of a text.
-const LONGEST_TEXT: usize = 256;
+pub const LONGEST_TEXT: usize = 256;
 
 // How deep a text may nest.
 pub const DEEPEST: usize = 8;
@@ -37,47 +38,30 @@ pub fn check_text(text: &[u8]) -> Result<(), Refusal>
     check_exponents(text)
 }
 
-// Refusal 17, at the first sign that nests too deep: the room is one more than the number of signs that may still be opened.
+// Refusal 17, at the first sign that nests too deep.
 fn check_nesting(text: &[u8]) -> Result<(), Refusal>
     requires { length text.now ≤ 256 }
     ensures { result ≡ nesting_rule 8 text.now 0 }
 {
-    let mut room = DEEPEST + 1;
-    let mut i = 0;
-    while i < text.len() {
-        room = room_after(text[i], room);
-        let checked = check_that(room > 0, Reason::NestingTooDeep, i);
-        let Ok(()) = checked else {
-            return checked;
+    let mut room = DEEPEST;
+    for (i, &b) in text.iter().enumerate() {
+        let Some(left) = room_after(b, room) else {
+            return refuse(Reason::NestingTooDeep, i);
         };
-        i += 1;
+        room = left;
     }
     Ok(())
 }
 
-// The room after a byte.
-fn room_after(b: u8, room: usize) -> usize
-    requires { (0 < room) × (room ≤ 512) }
+// How many more signs may stand open after a byte than now, where so many may; none where it opens one too many.
+fn room_after(b: u8, room: usize) -> Option<usize>
+    requires { room ≤ 512 }
     ensures { result ≡ room_after b room }
 {
-    let opens = opens(b);
-    if opens {
-        return room - 1;
-    }
-    if b == GROUP_CLOSES {
-        return room + 1;
-    }
-    if b == BRACKET_CLOSES { room + 1 } else { room }
-}
-
-// Whether a byte opens a group or a bracket.
-fn opens(b: u8) -> bool
-    ensures { result ≡ is_opening b }
-{
-    if b == GROUP_OPENS {
-        true
-    } else {
-        b == BRACKET_OPENS
+    match b {
+        GROUP_OPENS | BRACKET_OPENS => room.checked_sub(1),
+        GROUP_CLOSES | BRACKET_CLOSES => Some(room + 1),
+        _ => Some(room),
     }
 }
 
@@ -86,14 +70,18 @@ fn check_exponents(text: &[u8]) -> Result<(), Refusal>
     requires { length text.now ≤ 256 }
     ensures { result ≡ exponent_rule text.now 0 }
 {
-    let mut i = 0;
-    while i < text.len() {
-        let exponent = read_exponent(&text[i..]);
-        let checked = check_that(exponent.number <= LARGEST, Reason::ExponentOutOfRange, i);
+    for i in 0..text.len() {
+        let checked = check_that(is_within(&text[i..]), Reason::ExponentOutOfRange, i);
         let Ok(()) = checked else {
             return checked;
         };
-        i += 1;
     }
     Ok(())
+}
+
+// Whether the exponent at the beginning of a text is in its range, where one stands there.
+fn is_within(text: &[u8]) -> bool
+    ensures { result ≡ power_within (power_of text.now) }
+{
+    read_exponent(text).is_none_or(|power| power.number <= LARGEST)
 }

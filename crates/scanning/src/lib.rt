@@ -4,3 +4,4 @@
 pub mod checks;
 pub mod exponent;
 pub mod shape;
+mod signs;

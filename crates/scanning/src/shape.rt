@@ -1,182 +1,89 @@
 // Refusal 16: a scan from the left that keeps what was read last and which signs are open.
-ghost use Rattle.std.specs.Prelude.{◌+◌, ◌<◌, ◌≤◌, ◌≡◌, length};
-ghost use Rattle.syntax.specs.Scan.{awaited, closing, shape_rule, step, step_product};
-ghost use Rattle.scanning.specs.Signs.{complete_at, digit_taken, open_of, opens_in, refused, scanned_state, taken};
+ghost use Rattle.std.specs.Prelude.{◌+◌, ◌<◌, ◌≤◌, ◌≡◌, length, option_map};
+ghost use Rattle.syntax.specs.Scan.{closing, complete, shape_rule, state, step, step_product};
 
-use crate::exponent::is_digit;
-use records::answers::{Refusal, check_that};
+use crate::signs::Signs;
+use records::answers::{Refusal, check_that, refuse};
 use records::record::is_letter;
 use records::refusals::Reason;
-use syntax::{BRACKET_CLOSES, BRACKET_OPENS, CARET, COMMA, GROUP_CLOSES, GROUP_OPENS, MINUS, Mode};
-
-// An open sign by number: a group's, and a bracket's before its comma and after it.
-const GROUP: u8 = 0;
-
-const FIRST: u8 = 1;
-
-const SECOND: u8 = 2;
-
-// What one byte more leads to: whether a text may go on with it, and what was read last and how many signs are open then.
-#[derive(Clone, Copy)]
-pub struct Scanned {
-    pub taken: bool,
-    pub mode: Mode,
-    pub depth: usize,
-}
+use syntax::{
+    BRACKET_CLOSES, BRACKET_OPENS, CARET, COMMA, GROUP_CLOSES, GROUP_OPENS, MINUS, Mode, Open,
+};
 
 // Refusal 16 but for the length: at the first byte with which no well-formed text can go on, or at the end.
 pub fn check_shape(text: &[u8]) -> Result<(), Refusal>
     requires { length text.now ≤ 256 }
     ensures { result ≡ shape_rule text.now }
 {
-    let mut signs = [0u8; 256];
-    let mut depth = 0;
+    let mut signs = Signs::new();
     let mut mode = Mode::Ready;
-    let mut i = 0;
-    while i < text.len() {
-        let next = scan_byte(mode, text[i], &mut signs, depth);
-        let checked = check_that(next.taken, Reason::TextMalformed, i);
-        let Ok(()) = checked else {
-            return checked;
+    for (i, &b) in text.iter().enumerate() {
+        let Some(next) = scan_byte(mode, b, &mut signs) else {
+            return refuse(Reason::TextMalformed, i);
         };
-        mode = next.mode;
-        depth = next.depth;
-        i += 1;
+        mode = next;
     }
-    check_that(may_end(mode, depth), Reason::TextMalformed, i)
+    check_that(may_end(mode, &signs), Reason::TextMalformed, text.len())
 }
 
 // Whether a text may end here.
-fn may_end(mode: Mode, depth: usize) -> bool
-    ensures { result ≡ complete_at mode depth }
+fn may_end(mode: Mode, signs: &Signs) -> bool
+    ensures { result ≡ complete mode signs.now }
 {
-    if depth > 0 {
-        return false;
-    }
-    match mode {
-        Mode::Ready => true,
-        Mode::After => true,
-        Mode::Caret => false,
-        Mode::Minus => false,
-        Mode::OneDigit => true,
-    }
+    signs.is_empty() && matches!(mode, Mode::Ready | Mode::After | Mode::OneDigit)
 }
 
-// One byte more.
-fn scan_byte(mode: Mode, b: u8, signs: &mut [u8], depth: usize) -> Scanned
-    requires { depth < length signs.old }
-    ensures within { result.depth ≤ depth + 1 }
-    ensures state { scanned_state result signs.new ≡ step mode (opens_in depth signs.old) b }
+// One byte more: what was read last then, where a text may go on with it.
+fn scan_byte(mode: Mode, b: u8, signs: &mut Signs) -> Option<Mode>
+    requires { length signs.old < 256 }
+    ensures within { length signs.new ≤ length signs.old + 1 }
+    ensures state { option_map (λ m. state m signs.new) result ≡ step mode signs.old b }
 {
-    match mode {
-        Mode::Ready => scan_product(b, signs, depth),
-        Mode::After => {
-            if b == CARET {
-                return taken(Mode::Caret, depth);
-            }
-            scan_product(b, signs, depth)
-        }
-        Mode::Caret => {
-            if b == MINUS {
-                return taken(Mode::Minus, depth);
-            }
-            scan_digit(b, depth)
-        }
-        Mode::Minus => scan_digit(b, depth),
-        Mode::OneDigit => {
-            let digit = is_digit(b);
-            if digit {
-                return taken(Mode::Ready, depth);
-            }
-            scan_product(b, signs, depth)
-        }
-    }
-}
-
-// A text goes on, with so many open signs.
-fn taken(mode: Mode, depth: usize) -> Scanned
-    ensures depth { result.depth ≡ depth }
-    ensures whole { result ≡ taken mode depth }
-{
-    Scanned {
-        taken: true,
-        mode,
-        depth,
-    }
-}
-
-// No text goes on.
-fn refused() -> Scanned
-    ensures depth { result.depth ≡ 0 }
-    ensures whole { result ≡ refused }
-{
-    Scanned {
-        taken: false,
-        mode: Mode::Ready,
-        depth: 0,
-    }
-}
-
-// The first digit of a power.
-fn scan_digit(b: u8, depth: usize) -> Scanned
-    ensures within { result.depth ≤ depth }
-    ensures whole { result ≡ digit_taken b depth }
-{
-    let digit = is_digit(b);
-    if digit {
-        taken(Mode::OneDigit, depth)
-    } else {
-        refused()
+    match (mode, b) {
+        (Mode::After, CARET) => Some(Mode::Caret),
+        (Mode::Caret, MINUS) => Some(Mode::Minus),
+        (Mode::Caret | Mode::Minus, b'0'..=b'9') => Some(Mode::OneDigit),
+        (Mode::Caret | Mode::Minus, _) => None,
+        (Mode::OneDigit, b'0'..=b'9') => Some(Mode::Ready),
+        (Mode::Ready | Mode::After | Mode::OneDigit, _) => scan_product(b, signs),
     }
 }
 
 // A byte where a factor may start, or the last open sign be closed.
-fn scan_product(b: u8, signs: &mut [u8], depth: usize) -> Scanned
-    requires { depth < length signs.old }
-    ensures within { result.depth ≤ depth + 1 }
-    ensures state { scanned_state result signs.new ≡ step_product b (opens_in depth signs.old) }
+fn scan_product(b: u8, signs: &mut Signs) -> Option<Mode>
+    requires { length signs.old < 256 }
+    ensures within { length signs.new ≤ length signs.old + 1 }
+    ensures state { option_map (λ m. state m signs.new) result ≡ step_product b signs.old }
 {
-    let letter = is_letter(b);
-    if letter {
-        return taken(Mode::After, depth);
+    if is_letter(b) {
+        return Some(Mode::After);
     }
-    if b == GROUP_OPENS {
-        signs[depth] = GROUP;
-        return taken(Mode::Ready, depth + 1);
+    match b {
+        GROUP_OPENS => {
+            signs.push(Open::Round);
+            Some(Mode::Ready)
+        }
+        BRACKET_OPENS => {
+            signs.push(Open::First);
+            Some(Mode::Ready)
+        }
+        _ => close_sign(b, signs),
     }
-    if b == BRACKET_OPENS {
-        signs[depth] = FIRST;
-        return taken(Mode::Ready, depth + 1);
-    }
-    close_sign(b, signs, depth)
 }
 
 // The byte that the last open sign waits for.
-fn close_sign(b: u8, signs: &mut [u8], depth: usize) -> Scanned
-    requires { depth < length signs.old }
-    ensures within { result.depth ≤ depth + 1 }
-    ensures state { scanned_state result signs.new ≡ closing b (opens_in depth signs.old) }
+fn close_sign(b: u8, signs: &mut Signs) -> Option<Mode>
+    requires { length signs.old < 256 }
+    ensures within { length signs.new ≤ length signs.old + 1 }
+    ensures state { option_map (λ m. state m signs.new) result ≡ closing b signs.old }
 {
-    if depth == 0 {
-        return refused();
+    match (signs.pop()?, b) {
+        (Open::Round, GROUP_CLOSES) => Some(Mode::After),
+        (Open::First, COMMA) => {
+            signs.push(Open::Second);
+            Some(Mode::Ready)
+        }
+        (Open::Second, BRACKET_CLOSES) => Some(Mode::After),
+        _ => None,
     }
-    let last = depth - 1;
-    if b != awaited_byte(signs[last]) {
-        return refused();
-    }
-    if signs[last] == FIRST {
-        signs[last] = SECOND;
-        return taken(Mode::Ready, depth);
-    }
-    taken(Mode::After, last)
-}
-
-// The byte that an open sign waits for: ) or , or ].
-fn awaited_byte(sign: u8) -> u8
-    ensures { result ≡ awaited (open_of sign) }
-{
-    if sign == GROUP {
-        return GROUP_CLOSES;
-    }
-    if sign == FIRST { COMMA } else { BRACKET_CLOSES }
 }

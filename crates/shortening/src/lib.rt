@@ -151,7 +151,7 @@ pub fn find_shortening(
         for i in slots.start..end {
             if is_fresh(marks, k, i) {
                 let size = length_of(lengths, i);
-                let mut most = 0;
+                let mut most: usize = 0;
                 for form in first_form(letters, inverses, lengths, n, k, i)..4 {
                     if is_close(form, letters, inverses, lengths, n, k, i) {
                         let c = seam_of(form, letters, inverses, lengths, n, k, i);

@@ -69,7 +69,7 @@ module _ (why : Reason) (limit : ℕ) where
       )
 
   passed_or : {k : ℕ} → Ok tt ≡ refusal why k → ⊥
-  passed_or e = let z : ◌≡◌ {A = ℕ} 0 1 = cc in omega arith
+  passed_or e = cc
 
   abbrev place_of : Checked → ℕ
   place_of (Ok _) = 0

@@ -4,7 +4,7 @@ use Prim.Native.Nat.{◌+◌, ◌<◌, ◌≤◌, suc, ℕ}
 use mathlib.Core.Path.{◌∙◌, ◌≡◌, ap, refl, subst, sym}
 use mathlib.Core.Logic.{◌↔◌, ◌⊎◌, inl, inr}
 use mathlib.Core.Bool.{false}
-use Rattle.std.specs.Prelude.{None, Option, Some}
+use Rattle.std.specs.Prelude.{Option, None, Some}
 use mathlib.Core.List.{List, [], ◌++◌, ◌∷◌, append_assoc}
 use native.Mathlib.Omega.{arith}
 use native.Mathlib.Decide.{dec_lt}
@@ -12,7 +12,9 @@ use lib.ListN.{drop, length, take, take-append-drop}
 use lib.Seq.{take-length, take-take}
 use Rattle.records.specs.Refusals.{refusal}
 use Rattle.syntax.specs.Trees.{Begins, MalformedAt, WellFormed}
-use Rattle.syntax.specs.Scan.{Open, State, complete, first, round, scan, second, shape_rule, start, state, state_after, step}
+use Rattle.syntax.specs.Scan.{State, complete, scan, shape_rule, start, state, state_after, step}
+use Rattle.syntax.specs.declared.Open.{Open}
+use Rattle.syntax.specs.declared.Open.TheVariants.{First, Round, Second}
 use Rattle.syntax.specs.declared.Mode.{Mode}
 use Rattle.syntax.specs.declared.Mode.TheVariants.{After, Caret, Minus, OneDigit, Ready}
 use Rattle.systems.proofs.Logic.{bool_cases, true_not_false}
@@ -22,16 +24,13 @@ use Rattle.records.specs.declared.refusals.Reason.TheVariants.{TextMalformed}
 use Rattle.std.specs.Prelude.{Err, Ok}
 use Rattle.records.specs.Refusals.{Checked}
 
-impossible : {q : State} → ◌≡◌ {A = Option State} None (Some q) → ⊥
-impossible e = let z : ◌≡◌ {A = ℕ} 0 1 = cc in omega arith
-
 -- the state after one text and then another
 scan_on : (u v : List ℕ) (q q' : State) → state_after q u ≡ Some q' → state_after q (u ++ v) ≡ state_after q' v
 scan_on [] v q q' e = let k : q ≡ q' = cc in ap (λ (x : State). state_after x v) k
 scan_on (b ∷ u) v q q' e = go (step q.mode q.opens b) refl (scan_on u v)
   where
     go : (o : Option State) → step q.mode q.opens b ≡ o → ((q q' : State) → state_after q u ≡ Some q' → state_after q (u ++ v) ≡ state_after q' v) → state_after q (b ∷ (u ++ v)) ≡ state_after q' v
-    go None h ih = absurd (impossible (sym (after_stop q.mode q.opens b u h) ∙ e))
+    go None h ih = cc (sym (after_stop q.mode q.opens b u h) ∙ e)
     go (Some p) h ih = after-step q.mode q.opens b (u ++ v) p h ∙ ih p q' (sym (after-step q.mode q.opens b u p h) ∙ e)
 
 -- a text that is gone through was gone through in its beginning
@@ -40,7 +39,7 @@ scan_back [] v q q' e = (q, refl)
 scan_back (b ∷ u) v q q' e = go (step q.mode q.opens b) refl (scan_back u v)
   where
     go : (o : Option State) → step q.mode q.opens b ≡ o → ((q q' : State) → state_after q (u ++ v) ≡ Some q' → (p : State) × (state_after q u ≡ Some p)) → (p : State) × (state_after q (b ∷ u) ≡ Some p)
-    go None h ih = absurd (impossible (sym (after_stop q.mode q.opens b (u ++ v) h) ∙ e))
+    go None h ih = cc (sym (after_stop q.mode q.opens b (u ++ v) h) ∙ e)
     go (Some x) h ih =
         let (p, f) = ih x q' (sym (after-step q.mode q.opens b (u ++ v) x h) ∙ e) in
         (p, after-step q.mode q.opens b u x h ∙ f)
@@ -48,21 +47,21 @@ scan_back (b ∷ u) v q q' e = go (step q.mode q.opens b) refl (scan_back u v)
 -- what closes the open signs
 abbrev closers : List Open → List ℕ
 closers [] = []
-closers (round ∷ s) = 41 ∷ closers s
-closers (first ∷ s) = 44 ∷ 93 ∷ closers s
-closers (second ∷ s) = 93 ∷ closers s
+closers (Round ∷ s) = 41 ∷ closers s
+closers (First ∷ s) = 44 ∷ 93 ∷ closers s
+closers (Second ∷ s) = 93 ∷ closers s
 
 closes : (m : Mode) (s : List Open) → Between m → Accepted (state m s) (closers s)
 closes m [] h = record { last = state m []; reaches = refl; ends = complete_between m h }
-closes m (round ∷ s) h =
+closes m (Round ∷ s) h =
     let a = closes After s tt in
-    record { last = a.last; reaches = after-step m (round ∷ s) 41 (closers s) _ (step_close m round s h) ∙ a.reaches; ends = a.ends }
-closes m (first ∷ s) h =
+    record { last = a.last; reaches = after-step m (Round ∷ s) 41 (closers s) _ (step_close m Round s h) ∙ a.reaches; ends = a.ends }
+closes m (First ∷ s) h =
     let a = closes After s tt in
-    record { last = a.last; reaches = after-step m (first ∷ s) 44 (93 ∷ closers s) _ (step_close m first s h) ∙ a.reaches; ends = a.ends }
-closes m (second ∷ s) h =
+    record { last = a.last; reaches = after-step m (First ∷ s) 44 (93 ∷ closers s) _ (step_close m First s h) ∙ a.reaches; ends = a.ends }
+closes m (Second ∷ s) h =
     let a = closes After s tt in
-    record { last = a.last; reaches = after-step m (second ∷ s) 93 (closers s) _ (step_close m second s h) ∙ a.reaches; ends = a.ends }
+    record { last = a.last; reaches = after-step m (Second ∷ s) 93 (closers s) _ (step_close m Second s h) ∙ a.reaches; ends = a.ends }
 
 -- every state can be brought to an end
 finish : (m : Mode) (s : List Open) → (r : List ℕ) × Accepted (state m s) r
@@ -158,20 +157,17 @@ stopped-malformed r i t =
     record {
       within = t.within;
       before = scan_begins (take i r) t.last t.reaches;
-      there = λ h b. impossible (sym (t.there h) ∙ (begins-scan (take (suc i) r) b).1);
+      there = λ h b. cc (sym (t.there h) ∙ (begins-scan (take (suc i) r) b).1);
       malformed = λ w. elim (dec_lt i (length r)) [
-        | yes h ↦ impossible (sym (t.there h) ∙ (scan_back (take (suc i) r) (drop (suc i) r) start (well_formed-accepted r w).last (rw take-append-drop (well_formed-accepted r w).reaches)).1)
+        | yes h ↦ cc (sym (t.there h) ∙ (scan_back (take (suc i) r) (drop (suc i) r) start (well_formed-accepted r w).last (rw take-append-drop (well_formed-accepted r w).reaches)).1)
         | no n ↦
             let z : i ≡ length r = omega (arith, t.within) in
             let e : take i r ≡ r = rw z (take-length r) in
             let a = well_formed-accepted r w in
-            let k : t.last ≡ a.last = same-state (sym t.reaches ∙ ap (state_after start) e ∙ a.reaches) in
+            let k : t.last ≡ a.last = cc (sym t.reaches ∙ ap (state_after start) e ∙ a.reaches) in
             true_not_false _ (rw k a.ends) (t.ends z)
       ];
     }
-  where
-    same-state : {p q : State} → Some p ≡ Some q → p ≡ q
-    same-state e = cc
 
 malformed_once : (r : List ℕ) (i j : ℕ) → MalformedAt r i → MalformedAt r j → i ≡ j
 malformed_once r i j a b = elim (dec_lt i j) [
@@ -183,7 +179,7 @@ malformed_once r i j a b = elim (dec_lt i j) [
 ]
 
 passed_or : {k : ℕ} → Ok tt ≡ refusal TextMalformed k → ⊥
-passed_or e = let z : ◌≡◌ {A = ℕ} 0 1 = cc in omega arith
+passed_or e = cc
 
 abbrev place_of : Checked → ℕ
 place_of (Ok _) = 0

@@ -6,7 +6,9 @@ use Rattle.std.specs.Prelude.{None, Some}
 use mathlib.Core.List.{List, [], ◌++◌, ◌∷◌, append_assoc, append-nil}
 use Rattle.records.specs.Records.{is_letter}
 use Rattle.syntax.specs.Trees.{Digits, Power, Product, Proper, ProperDigits, ProperPower, bracket, group, is_digit, letter, nothing, one, plain, raised, spelled, spelled_digits, spelled_minus, spelled_power, two}
-use Rattle.syntax.specs.Scan.{Open, State, awaited, closed, complete, first, round, second, state, state_after, step}
+use Rattle.syntax.specs.Scan.{State, awaited, closed, complete, state, state_after, step}
+use Rattle.syntax.specs.declared.Open.{Open}
+use Rattle.syntax.specs.declared.Open.TheVariants.{First, Round, Second}
 use Rattle.syntax.specs.declared.Mode.{Mode}
 use Rattle.syntax.specs.declared.Mode.TheVariants.{After, Caret, Minus, OneDigit, Ready}
 use Rattle.syntax.proofs.Bytes.{digit_no_sign, letter_no_digit, letter_no_sign}
@@ -32,14 +34,14 @@ step-letter Caret s x h e = absurd h
 step-letter Minus s x h e = absurd h
 step-letter OneDigit s x h e = rw (letter_no_digit x e, e)
 
-pub step-group : (m : Mode) (s : List Open) → Between m → step m s 40 ≡ Some (state Ready (round ∷ s))
+pub step-group : (m : Mode) (s : List Open) → Between m → step m s 40 ≡ Some (state Ready (Round ∷ s))
 step-group Ready s h = refl
 step-group After s h = refl
 step-group Caret s h = absurd h
 step-group Minus s h = absurd h
 step-group OneDigit s h = refl
 
-pub step-bracket : (m : Mode) (s : List Open) → Between m → step m s 91 ≡ Some (state Ready (first ∷ s))
+pub step-bracket : (m : Mode) (s : List Open) → Between m → step m s 91 ≡ Some (state Ready (First ∷ s))
 step-bracket Ready s h = refl
 step-bracket After s h = refl
 step-bracket Caret s h = absurd h
@@ -47,19 +49,19 @@ step-bracket Minus s h = absurd h
 step-bracket OneDigit s h = refl
 
 close_ready : (o : Open) (s : List Open) → step Ready (o ∷ s) (awaited o) ≡ Some (closed o s)
-close_ready round s = refl
-close_ready first s = refl
-close_ready second s = refl
+close_ready Round s = refl
+close_ready First s = refl
+close_ready Second s = refl
 
 close_after : (o : Open) (s : List Open) → step After (o ∷ s) (awaited o) ≡ Some (closed o s)
-close_after round s = refl
-close_after first s = refl
-close_after second s = refl
+close_after Round s = refl
+close_after First s = refl
+close_after Second s = refl
 
 close_digit : (o : Open) (s : List Open) → step OneDigit (o ∷ s) (awaited o) ≡ Some (closed o s)
-close_digit round s = refl
-close_digit first s = refl
-close_digit second s = refl
+close_digit Round s = refl
+close_digit First s = refl
+close_digit Second s = refl
 
 pub step_close : (m : Mode) (o : Open) (s : List Open) → Between m → step m (o ∷ s) (awaited o) ≡ Some (closed o s)
 step_close Ready o s h = close_ready o s
@@ -113,21 +115,21 @@ scan-spelled (letter x p t) h m k s r =
     then (state m s) (state After s) x (spelled_power p) (spelled t) s r (λ w. after-step m s x w _ (step-letter m s x k h.0)) a
     (scan-spelled t h.2 a.mode a.between s r)
 scan-spelled (group u p t) h m k s r =
-    let a = scan-spelled u h.0 Ready tt (round ∷ s) (41 ∷ ((spelled_power p ++ spelled t) ++ r)) in
+    let a = scan-spelled u h.0 Ready tt (Round ∷ s) (41 ∷ ((spelled_power p ++ spelled t) ++ r)) in
     let b = scan_power s (spelled t ++ r) p h.1 in
     let c = scan-spelled t h.2 b.mode b.between s r in
     record {
       mode = c.mode;
       between = c.between;
       same =
-          after-step m s 40 ((spelled u ++ (41 ∷ (spelled_power p ++ spelled t))) ++ r) _ (step-group m s k) ∙ ap (state_after (state Ready (round ∷ s))) (append_assoc (spelled u) (41 ∷ (spelled_power p ++ spelled t)) r) ∙ a.same
-          ∙ after-step a.mode (round ∷ s) 41 ((spelled_power p ++ spelled t) ++ r) _ (step_close a.mode round s a.between)
+          after-step m s 40 ((spelled u ++ (41 ∷ (spelled_power p ++ spelled t))) ++ r) _ (step-group m s k) ∙ ap (state_after (state Ready (Round ∷ s))) (append_assoc (spelled u) (41 ∷ (spelled_power p ++ spelled t)) r) ∙ a.same
+          ∙ after-step a.mode (Round ∷ s) 41 ((spelled_power p ++ spelled t) ++ r) _ (step_close a.mode Round s a.between)
           ∙ ap (state_after (state After s)) (append_assoc (spelled_power p) (spelled t) r) ∙ b.same ∙ c.same;
     }
 scan-spelled (bracket u v p t) h m k s r =
     let w = (spelled_power p ++ spelled t) ++ r in
-    let a = scan-spelled u h.0 Ready tt (first ∷ s) (44 ∷ (spelled v ++ (93 ∷ w))) in
-    let d = scan-spelled v h.1 Ready tt (second ∷ s) (93 ∷ w) in
+    let a = scan-spelled u h.0 Ready tt (First ∷ s) (44 ∷ (spelled v ++ (93 ∷ w))) in
+    let d = scan-spelled v h.1 Ready tt (Second ∷ s) (93 ∷ w) in
     let b = scan_power s (spelled t ++ r) p h.2 in
     let c = scan-spelled t h.3 b.mode b.between s r in
     record {
@@ -135,13 +137,13 @@ scan-spelled (bracket u v p t) h m k s r =
       between = c.between;
       same =
           after-step m s 91 ((spelled u ++ (44 ∷ (spelled v ++ (93 ∷ (spelled_power p ++ spelled t))))) ++ r) _ (step-bracket m s k)
-          ∙ ap (state_after (state Ready (first ∷ s)))
+          ∙ ap (state_after (state Ready (First ∷ s)))
           (append_assoc (spelled u) (44 ∷ (spelled v ++ (93 ∷ (spelled_power p ++ spelled t)))) r
           ∙ ap (λ (l : List ℕ). spelled u ++ (44 ∷ l)) (append_assoc (spelled v) (93 ∷ (spelled_power p ++ spelled t)) r))
           ∙ a.same
-          ∙ after-step a.mode (first ∷ s) 44 (spelled v ++ (93 ∷ w)) _ (step_close a.mode first s a.between)
+          ∙ after-step a.mode (First ∷ s) 44 (spelled v ++ (93 ∷ w)) _ (step_close a.mode First s a.between)
           ∙ d.same
-          ∙ after-step d.mode (second ∷ s) 93 w _ (step_close d.mode second s d.between)
+          ∙ after-step d.mode (Second ∷ s) 93 w _ (step_close d.mode Second s d.between)
           ∙ ap (state_after (state After s)) (append_assoc (spelled_power p) (spelled t) r) ∙ b.same ∙ c.same;
     }
 

@@ -3,14 +3,15 @@ use Prim.Native.Nat.{ℕ}
 use mathlib.Core.Path.{◌∙◌, ◌≡◌, ap, refl, subst, sym}
 use mathlib.Core.Logic.{◌⊎◌, inl, inr}
 use mathlib.Core.Bool.{Bool, false, true}
-use Rattle.std.specs.Prelude.{None, Option, Some}
+use Rattle.std.specs.Prelude.{Option, None, Some}
 use mathlib.Core.List.{List, [], ◌++◌, ◌∷◌, append_assoc}
-use native.Mathlib.Omega.{arith}
 use lib.Dec.{eqb}
 use borrow.Author.Tests.{eqb-true}
 use Rattle.records.specs.Records.{is_letter}
 use Rattle.syntax.specs.Trees.{Digits, Power, Product, Proper, ProperDigits, ProperPower, WellFormed, bracket, group, is_digit, letter, nothing, one, plain, raised, spelled, spelled_digits, spelled_minus, spelled_power, two}
-use Rattle.syntax.specs.Scan.{Open, State, awaited, closed, closing, complete, first, round, second, state, step, step_product}
+use Rattle.syntax.specs.Scan.{State, awaited, closed, closing, complete, state, step, step_product}
+use Rattle.syntax.specs.declared.Open.{Open}
+use Rattle.syntax.specs.declared.Open.TheVariants.{First, Round, Second}
 use Rattle.syntax.specs.declared.Mode.{Mode}
 use Rattle.syntax.specs.declared.Mode.TheVariants.{After, Caret, Minus, OneDigit, Ready}
 use Rattle.systems.proofs.Logic.{bool_cases, true_not_false}
@@ -37,9 +38,9 @@ record Comma (T : List ℕ → Type 0) (r : List ℕ) : Type 0 where
 -- what may follow where a factor may start, for the signs that are open
 abbrev Tail : List Open → List ℕ → Type 0
 Tail [] r = WellFormed r
-Tail (round ∷ s) r = Closes 41 (Tail s) r
-Tail (first ∷ s) r = Comma (Closes 93 (Tail s)) r
-Tail (second ∷ s) r = Closes 93 (Tail s) r
+Tail (Round ∷ s) r = Closes 41 (Tail s) r
+Tail (First ∷ s) r = Comma (Closes 93 (Tail s)) r
+Tail (Second ∷ s) r = Closes 93 (Tail s) r
 
 -- and after a factor, a caret, a minus sign, a digit
 record Powered (s : List Open) (r : List ℕ) : Type 0 where
@@ -93,7 +94,7 @@ prepend [] {u} r f h =
       tree = f.before h.tree;
       spells = record { proper = f.proper h.tree h.spells.proper; spelling = f.same h.tree ∙ ap (◌++◌ u) h.spells.spelling };
     }
-prepend (round ∷ s) {u} r f h =
+prepend (Round ∷ s) {u} r f h =
     record {
       tree = f.before h.tree;
       proper = f.proper h.tree h.proper;
@@ -103,7 +104,7 @@ prepend (round ∷ s) {u} r f h =
       tail = h.tail;
       same = longer f h.tree (41 ∷ (spelled_power h.power ++ h.rest)) r h.same;
     }
-prepend (first ∷ s) {u} r f h =
+prepend (First ∷ s) {u} r f h =
     record {
       tree = f.before h.tree;
       proper = f.proper h.tree h.proper;
@@ -111,7 +112,7 @@ prepend (first ∷ s) {u} r f h =
       tail = h.tail;
       same = longer f h.tree (44 ∷ h.rest) r h.same;
     }
-prepend (second ∷ s) {u} r f h =
+prepend (Second ∷ s) {u} r f h =
     record {
       tree = f.before h.tree;
       proper = f.proper h.tree h.proper;
@@ -169,43 +170,37 @@ from_bracket s r c =
     rw same at (prepend s g.rest (a_bracket c.tree g.tree g.power c.proper g.proper g.power_proper) g.tail)
 
 from_close : (o : Open) (s : List Open) (r : List ℕ) → GoesFrom (closed o s) r → Tail (o ∷ s) (awaited o ∷ r)
-from_close round s r g =
+from_close Round s r g =
     record { tree = nothing; proper = tt; power = g.power; power_proper = g.proper; rest = g.rest; tail = g.tail; same = ap (◌∷◌ 41) g.same }
-from_close first s r g = record { tree = nothing; proper = tt; rest = r; tail = g; same = refl }
-from_close second s r g =
+from_close First s r g = record { tree = nothing; proper = tt; rest = r; tail = g; same = refl }
+from_close Second s r g =
     record { tree = nothing; proper = tt; power = g.power; power_proper = g.proper; rest = g.rest; tail = g.tail; same = ap (◌∷◌ 93) g.same }
 
-impossible : {A : Type 0} {q : State} → ◌≡◌ {A = Option State} None (Some q) → A
-impossible e = let z : ◌≡◌ {A = ℕ} 0 1 = cc in absurd (omega arith)
-
 from_closing : (b : ℕ) (s : List Open) (r : List ℕ) (q : State) → closing b s ≡ Some q → GoesFrom q r → Tail s (b ∷ r)
-from_closing b [] r q e g = impossible e
+from_closing b [] r q e g = cc e
 from_closing b (o ∷ s) r q e g = elim (bool_cases (eqb b (awaited o))) [
   | inl h ↦
       let z : Some (closed o s) ≡ Some q = rw h at e in
       let k : closed o s ≡ q = cc in
       rw (eqb-true b (awaited o) h) (from_close o s r (rw k g))
-  | inr h ↦ impossible {q = q} (rw h at e)
+  | inr h ↦ cc (rw h at e)
 ]
-
-same-state : {p q : State} → Some p ≡ Some q → p ≡ q
-same-state e = cc
 
 from_product : (b : ℕ) (s : List Open) (r : List ℕ) (q : State) → step_product b s ≡ Some q → GoesFrom q r → Tail s (b ∷ r)
 from_product b s r q e g = elim (bool_cases (is_letter b)) [
   | inl h ↦
-      let k : state After s ≡ q = same-state (rw h at e) in
+      let k : state After s ≡ q = cc (rw h at e) in
       let g' : GoesFrom (state After s) r = carry r k g in
       from_letter b s r h g'
   | inr h ↦ elim (bool_cases (eqb b 40)) [
     | inl i ↦
-        let k : state Ready (round ∷ s) ≡ q = same-state (rw (h, i) at e) in
-        let g' : GoesFrom (state Ready (round ∷ s)) r = carry r k g in
+        let k : state Ready (Round ∷ s) ≡ q = cc (rw (h, i) at e) in
+        let g' : GoesFrom (state Ready (Round ∷ s)) r = carry r k g in
         rw (eqb-true b 40 i) (from_group s r g')
     | inr i ↦ elim (bool_cases (eqb b 91)) [
       | inl j ↦
-          let k : state Ready (first ∷ s) ≡ q = same-state (rw (h, i, j) at e) in
-          let g' : GoesFrom (state Ready (first ∷ s)) r = carry r k g in
+          let k : state Ready (First ∷ s) ≡ q = cc (rw (h, i, j) at e) in
+          let g' : GoesFrom (state Ready (First ∷ s)) r = carry r k g in
           rw (eqb-true b 91 j) (from_bracket s r g')
       | inr j ↦ from_closing b s r q (rw (h, i, j) at e) g
     ]
@@ -243,35 +238,35 @@ from_step : (m : Mode) (s : List Open) (b : ℕ) (r : List ℕ) (q : State) → 
 from_step Ready s b r q e g = from_product b s r q e g
 from_step After s b r q e g = elim (bool_cases (eqb b 94)) [
   | inl h ↦
-      let k : state Caret s ≡ q = same-state (rw h at e) in
+      let k : state Caret s ≡ q = cc (rw h at e) in
       let g' : Signed s r = carry r k g in
       from_caret b s r (eqb-true b 94 h) g'
   | inr h ↦ record { power = plain; proper = tt; rest = b ∷ r; tail = from_product b s r q (rw h at e) g; same = refl }
 ]
 from_step Caret s b r q e g = elim (bool_cases (eqb b 45)) [
   | inl h ↦
-      let k : state Minus s ≡ q = same-state (rw h at e) in
+      let k : state Minus s ≡ q = cc (rw h at e) in
       let g' : Numbered s r = carry r k g in
       from_minus b s r (eqb-true b 45 h) g'
   | inr h ↦ elim (bool_cases (is_digit b)) [
     | inl i ↦
-        let k : state OneDigit s ≡ q = same-state (rw (h, i) at e) in
+        let k : state OneDigit s ≡ q = cc (rw (h, i) at e) in
         let g' : Tail s r ⊎ Digit s r = carry r k g in
         let n = from_digit b s r i g' in
         record { minus = false; digits = n.digits; proper = n.proper; rest = n.rest; tail = n.tail; same = n.same }
-    | inr i ↦ impossible {q = q} (rw (h, i) at e)
+    | inr i ↦ cc (rw (h, i) at e)
   ]
 ]
 from_step Minus s b r q e g = elim (bool_cases (is_digit b)) [
   | inl i ↦
-      let k : state OneDigit s ≡ q = same-state (rw i at e) in
+      let k : state OneDigit s ≡ q = cc (rw i at e) in
       let g' : Tail s r ⊎ Digit s r = carry r k g in
       from_digit b s r i g'
-  | inr i ↦ impossible {q = q} (rw i at e)
+  | inr i ↦ cc (rw i at e)
 ]
 from_step OneDigit s b r q e g = elim (bool_cases (is_digit b)) [
   | inl i ↦
-      let k : state Ready s ≡ q = same-state (rw i at e) in
+      let k : state Ready s ≡ q = cc (rw i at e) in
       let g' : Tail s r = carry r k g in
       inr (record { byte = b; proper = i; rest = r; tail = g'; same = refl })
   | inr i ↦ inl (from_product b s r q (rw i at e) g)
@@ -289,12 +284,12 @@ from_end m (o ∷ s) e = absurd (true_not_false _ e refl)
 
 accepted_goes : (r : List ℕ) (q : State) → Accepted q r → Goes q.mode q.opens r
 accepted_goes [] q a =
-    let k : q ≡ a.last = same-state a.reaches in
+    let k : q ≡ a.last = cc a.reaches in
     from_end q.mode q.opens (rw k a.ends)
 accepted_goes (b ∷ r) q a = go (step q.mode q.opens b) refl (accepted_goes r)
   where
     go : (o : Option State) → step q.mode q.opens b ≡ o → ((q : State) → Accepted q r → Goes q.mode q.opens r) → Goes q.mode q.opens (b ∷ r)
-    go None e ih = impossible (sym (after_stop q.mode q.opens b r e) ∙ a.reaches)
+    go None e ih = cc (sym (after_stop q.mode q.opens b r e) ∙ a.reaches)
     go (Some q') e ih =
         from_step q.mode q.opens b r q' e (ih q' (record { last = a.last; reaches = sym (after-step q.mode q.opens b r q' e) ∙ a.reaches; ends = a.ends }))
 

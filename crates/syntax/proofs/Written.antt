@@ -244,7 +244,7 @@ text_for w h l =
     }
 
 -- the runs of a word are as long as can be
-pub runs-maximal : (w : List ℕ) → Maximal (runs w)
+runs-maximal : (w : List ℕ) → Maximal (runs w)
 runs-maximal [] = tt
 runs-maximal (x ∷ w) = add_maximal (runs w) (runs-maximal w)
   where
@@ -260,7 +260,7 @@ runs-maximal (x ∷ w) = add_maximal (runs w) (runs-maximal w)
     ]
 
 -- so many letters before a word that does not begin with one
-pub run-before : (x n : ℕ) (rs : List Run) (v : List ℕ) → 1 ≤ n → Maximal (run x n ∷ rs) → runs v ≡ rs → runs (times n (x ∷ []) ++ v) ≡ run x n ∷ rs
+run-before : (x n : ℕ) (rs : List Run) (v : List ℕ) → 1 ≤ n → Maximal (run x n ∷ rs) → runs v ≡ rs → runs (times n (x ∷ []) ++ v) ≡ run x n ∷ rs
 run-before x zero rs v h m e = absurd (omega arith)
 run-before x (suc zero) [] v h m e = rw e
 run-before x (suc zero) (r ∷ rs) v h m e =

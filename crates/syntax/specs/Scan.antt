@@ -1,18 +1,15 @@
 -- Refusal 16 as a scan from the left: what was read last (Mode), and which signs are open, say what may come next.
-use Rattle.std.specs.Prelude.{◌+◌, ℕ, Bool, cond, false, true, List, [], ◌∷◌, eqb}
-use Rattle.std.specs.Prelude.{None, Option, Some}
+use Rattle.std.specs.Prelude.{◌+◌, ℕ, Bool, cond, false, true, List, [], ◌∷◌, None, Option, Some, eqb}
 use Rattle.records.specs.Records.{is_letter}
 use Rattle.records.specs.Refusals.{refusal}
 use Rattle.syntax.specs.Trees.{is_digit}
 use Rattle.syntax.specs.declared.Mode.{Mode}
 use Rattle.syntax.specs.declared.Mode.TheVariants.{After, Caret, Minus, OneDigit, Ready}
+use Rattle.syntax.specs.declared.Open.{Open}
+use Rattle.syntax.specs.declared.Open.TheVariants.{First, Round, Second}
 use Rattle.records.specs.declared.refusals.Reason.TheVariants.{TextMalformed}
 use Rattle.std.specs.Prelude.{Ok}
 use Rattle.records.specs.Refusals.{Checked}
-
--- an open sign: a group's, or a bracket's before its comma or after it
-pub data Open : Type 0 where
-  round first second : Open
 
 pub record State : Type 0 where
   pub mode : Mode
@@ -23,15 +20,15 @@ state m s = record { mode = m; opens = s }
 
 -- the byte that an open sign waits for: ) or , or ]
 abbrev pub awaited : Open → ℕ
-awaited round = 41
-awaited first = 44
-awaited second = 93
+awaited Round = 41
+awaited First = 44
+awaited Second = 93
 
 -- and what it leads to
 abbrev pub closed : Open → List Open → State
-closed round s = state After s
-closed first s = state Ready (second ∷ s)
-closed second s = state After s
+closed Round s = state After s
+closed First s = state Ready (Second ∷ s)
+closed Second s = state After s
 
 abbrev pub closing : ℕ → List Open → Option State
 closing b [] = None
@@ -41,8 +38,8 @@ closing b (o ∷ s) = cond (eqb b (awaited o)) (Some (closed o s)) None
 abbrev pub step_product : ℕ → List Open → Option State
 step_product b s =
     cond (is_letter b) (Some (state After s))
-    (cond (eqb b 40) (Some (state Ready (round ∷ s)))
-    (cond (eqb b 91) (Some (state Ready (first ∷ s)))
+    (cond (eqb b 40) (Some (state Ready (Round ∷ s)))
+    (cond (eqb b 91) (Some (state Ready (First ∷ s)))
     (closing b s)))
 
 -- one byte more; none where no well-formed text can go on with it

@@ -4,6 +4,7 @@ pub mod Inverse
 pub mod Cancellation
 pub mod Stack
 pub mod Buffers
+pub mod Writers
 pub mod Below
 pub mod Counting
 pub mod Joining

@@ -6,3 +6,4 @@ pub mod free_reduction;
 pub mod letters;
 pub mod product;
 pub mod word;
+pub mod writer;

@@ -1,3 +1,2 @@
--- Laws of what the writer puts into a buffer, which the proofs of several functions cite.
-pub mod Places
+-- Laws of what the writer puts into a buffer.
 pub mod Runs

@@ -1,90 +1,64 @@
--- The runs of a word: the one that it begins with, read a letter at a time, and the text of the word, written run by run at the beginning of a
--- buffer.
-use Prim.Native.Nat.{◌+◌, ◌<◌, ◌≤◌, suc, zero, ℕ}
-use mathlib.Core.List.{List, [], ◌++◌, ◌∷◌, append_assoc, append-nil}
-use mathlib.Core.Logic.{inl, inr}
-use mathlib.Core.Path.{◌∙◌, ◌≡◌, ap, refl, sym}
-use native.Mathlib.Nat.{add-zero}
-use native.Mathlib.Numerals.{add-one}
-use native.Mathlib.Omega.{arith}
-use lib.Dec.{eqb}
-use lib.ListN.{drop, drop_of_length-le, get_or, length, length-append}
-use lib.Seq.{drop-drop, get_or-drop}
-use Rattle.words.specs.Buffers.{written, written_at}
-use Rattle.words.proofs.Buffers.{drop_here, written_next}
+-- The runs of a word: the one that it begins with, and the text of the word, written run by run.
+use Rattle.std.proofs.Common.{◌*◌, ◌+◌, ◌-◌, ◌<◌, ◌≤◌, suc, zero, ℕ, ◌∙◌, ◌≡◌, ap, refl, sym, List, [], ◌++◌, ◌∷◌, append_assoc, append-nil, inl, inr, eqb, arith, drop, get_or, length, length-drop, take}
+use Rattle.std.proofs.lemmas.List.{nil_from_length}
+use borrow.Author.Tests.{eq-eqb, ne_eqb}
+use Rattle.words.specs.Writers.{Puts}
+use Rattle.words.specs.declared.writer.Writer.{Writer}
+use Rattle.words.proofs.Buffers.{drop_here, rest_part}
+use Rattle.words.proofs.Writers.{puts_next}
 use Rattle.systems.proofs.Logic.{bool_cases}
-use Rattle.syntax.specs.TreeWords.{times}
-use Rattle.syntax.specs.WordTexts.{Maximal, Run, add_letter, run, run_text, runs, runs_text, text_of}
-use Rattle.syntax.proofs.Written.{run-before, runs-maximal}
+use Rattle.syntax.specs.WordTexts.{Run, add_letter, run, run_text, runs, runs_text, text_of}
 
--- the first letter so many times, and the rest
-abbrev pub RunTo : List ℕ → ℕ → Type 0
-RunTo w i = w ≡ times i (get_or w 0 0 ∷ []) ++ drop i w
-
-pub run-first : (w : List ℕ) → 0 < length w → RunTo w 1
-run-first w h = drop_here w 0 h
-
-one_more : (x n : ℕ) (v : List ℕ) → times n (x ∷ []) ++ x ∷ v ≡ times (suc n) (x ∷ []) ++ v
-one_more x zero v = refl
-one_more x (suc n) v = ap (◌∷◌ x) (one_more x n v)
-
--- a run before another letter
-maximal-before : (x n y : ℕ) (rs : List Run) → 1 ≤ n → (x ≡ y → ⊥) → Maximal (add_letter y rs) → Maximal (run x n ∷ add_letter y rs)
-maximal-before x n y [] h d m = (h, d, m)
-maximal-before x n y (r ∷ rs) h d m = elim (bool_cases (eqb y r.letter)) [
-  | inl e ↦ rw e (h, d, rw e at m)
-  | inr e ↦ rw e (h, d, rw e at m)
+-- a letter before a word that begins with another, and before one that begins with it so many times
+other_run : (x y : ℕ) (rs : List Run) → (y ≡ x → ⊥) → add_letter x (add_letter y rs) ≡ run x 1 ∷ add_letter y rs
+other_run x y [] d = rw (ne_eqb x y (λ e. d (sym e)))
+other_run x y (r ∷ rs) d = elim (bool_cases (eqb y r.letter)) [
+  | inl e ↦ rw (e, ne_eqb x y (λ e. d (sym e)))
+  | inr e ↦ rw (e, ne_eqb x y (λ e. d (sym e)))
 ]
 
-module _ (w : List ℕ) (i : ℕ) (here : RunTo w i) where
-  pub run_more : i < length w → get_or w i 0 ≡ get_or w 0 0 → RunTo w (i + 1)
-  run_more h e = here ∙ rw (drop_here w i h, e, add-one) (one_more (get_or w 0 0) i (drop (suc i) w))
+first_run : (n x : ℕ) (v : List ℕ) → n ≤ length v → ((i : ℕ) → i < n → get_or v i 0 ≡ x) → (n < length v → get_or v n 0 ≡ x → ⊥)
+    → runs (x ∷ v) ≡ run x (1 + n) ∷ runs (drop n v)
+first_run zero x [] inside same longest = refl
+first_run zero x (y ∷ v) inside same longest = other_run x y (runs v) (longest (omega arith))
+first_run (suc n) x [] inside same longest = absurd (omega arith)
+first_run (suc n) x (y ∷ v) inside same longest =
+    let next = first_run n x v (omega arith) (λ i h. same (suc i) (omega arith)) (λ h. longest (omega arith)) in
+    let more : 1 + n + 1 ≡ 1 + suc n = omega arith in
+    rw (same 0 (omega arith), next, eq-eqb x x refl, more)
 
-  run-there : 1 ≤ i → Maximal (run (get_or w 0 0) i ∷ runs (drop i w)) → runs w ≡ run (get_or w 0 0) i ∷ runs (drop i w)
-  run-there h m = ap runs here ∙ run-before (get_or w 0 0) i (runs (drop i w)) (drop i w) h m refl
-
-  pub run_ends : 1 ≤ i → i < length w → (get_or w i 0 ≡ get_or w 0 0 → ⊥) → runs w ≡ run (get_or w 0 0) i ∷ runs (drop i w)
-  run_ends a h d =
-      let v : List ℕ = drop (i + 1) w in
-      let m = maximal-before (get_or w 0 0) i (get_or w i 0) (runs v) a (λ e. d (sym e)) (runs-maximal (get_or w i 0 ∷ v)) in
-      run-there a (rw (drop_here w i h) m)
-
-  pub run_is_all : 1 ≤ i → length w ≤ i → runs w ≡ run (get_or w 0 0) i ∷ runs (drop i w)
-  run_is_all a h = run-there a (rw (drop_of_length-le w h) a)
-
--- a buffer that begins with the text of a word, up to the text of the letters from a place on
-pub record WrittenTo (word before text : List ℕ) (at i : ℕ) : Type 0 where
+-- what is written of the text of a word, before the letters that are left; at most two bytes for each letter
+pub record WrittenTo (word : List ℕ) (start now : Writer) (rest : List ℕ) : Type 0 where
   pub front : List ℕ
-  pub whole : text_of word ≡ front ++ text_of (drop i word)
-  pub place : at ≡ length front
-  pub buffer : text ≡ written front before
+  pub puts : Puts start front now
+  pub whole : text_of word ≡ front ++ text_of rest
+  pub most : now.at + 2 * length rest ≤ start.at + 2 * length word
 
-pub text_begin : (word before : List ℕ) → WrittenTo word before before 0 0
-text_begin word before = record { front = []; whole = refl; place = refl; buffer = refl }
+module _ (word rest : List ℕ) (start now : Writer) (here : WrittenTo word start now rest) where
+  -- the letters after the first one that is left
+  abbrev others : List ℕ
+  others = take (length rest - 1) (drop 1 rest)
 
-module _ (word before text : List ℕ) (at i : ℕ) (here : WrittenTo word before text at i) where
-  pub text_more : (n : ℕ) (s : List ℕ) {end : ℕ} {after : List ℕ} → runs s ≡ run (get_or s 0 0) n ∷ runs (drop n s) → s ≡ drop i word
-      → end ≡ at + length (run_text (run (get_or word i 0) n)) → after ≡ written_at at (run_text (run (get_or word i 0) n)) text
-      → WrittenTo word before after end (i + n)
+  pub text_more : (letter n : ℕ) (after : Writer) → 1 ≤ length rest → letter ≡ get_or rest 0 0 → n ≤ length others
+      → ((i : ℕ) → i < n → get_or others i 0 ≡ letter) → (n < length others → get_or others n 0 ≡ letter → ⊥)
+      → Puts now (run_text (run letter (1 + n))) after → after.at ≤ now.at + 2 * (1 + n)
+      → WrittenTo word start after (take (length others - n) (drop n others))
   unfolding text_of
-  text_more n s first same e told =
-      let u : List ℕ = run_text (run (get_or word i 0) n) in
-      let next : text_of (drop i word) ≡ u ++ text_of (drop (i + n) word) =
-      ap runs_text (rw (same, get_or-drop i word 0 0, drop-drop n i word, add-zero) at first) in
-      let place : at ≡ 0 + length here.front = omega arith in
-      record {
+  text_more letter n after full is inside same longest puts most =
+      let u : List ℕ = run_text (run letter (1 + n)) in
+      let left : List ℕ = drop n others in
+      let split : rest ≡ letter ∷ others = rw (is, rest_part) (drop_here rest 0 (omega arith)) in
+      let next : text_of rest ≡ u ++ text_of left = ap text_of split ∙ ap runs_text (first_run n letter others inside same longest) in
+      rw rest_part (record {
         front = here.front ++ u;
-        whole = here.whole ∙ ap (◌++◌ here.front) next ∙ sym (append_assoc here.front u (text_of (drop (i + n) word)));
-        place = omega (arith, length-append here.front u);
-        buffer = written_next 0 here.front u (here.front ++ u) before refl here.buffer place told;
-      }
+        puts = puts_next start now after here.front u (here.front ++ u) here.puts puts refl;
+        whole = here.whole ∙ ap (◌++◌ here.front) next ∙ sym (append_assoc here.front u (text_of left));
+        most = omega (arith, here.most, ap length split, length-drop n others);
+      })
 
-  text_whole : length word ≤ i → text_of word ≡ here.front
+  pub text_all : length rest < 1 → Puts start (text_of word) now
   unfolding text_of
-  text_whole h = here.whole ∙ rw (drop_of_length-le word h, append-nil)
-
-  pub text_all : length word ≤ i → text ≡ written (text_of word) before
-  text_all h = rw (text_whole h) here.buffer
-
-  pub text_end : length word ≤ i → at ≡ length (text_of word)
-  text_end h = rw (text_whole h) here.place
+  text_all e =
+      let none : rest ≡ [] = nil_from_length rest (omega arith) in
+      let all : text_of word ≡ here.front = here.whole ∙ rw (none, append-nil) in
+      rw all here.puts

@@ -1,11 +1,13 @@
 // The text of a word, written run by run.
 #![tactic(auto)]
 
-ghost use Rattle.std.specs.Prelude.{◌*◌, ◌+◌, ◌<◌, ◌≤◌, [], ◌∷◌, ◌≡◌, drop, get_or, length};
-ghost use Rattle.words.specs.Buffers.{written, written_at};
-ghost use Rattle.syntax.specs.WordTexts.{numeral, power_text, run, run_text, runs, small_of, text_of};
+ghost use Rattle.std.specs.Prelude.{◌*◌, ◌+◌, ◌<◌, ◌≤◌, ◌∷◌, ◌≡◌, ℕ, get_or, length};
+ghost use Rattle.words.specs.Buffers.{written};
+ghost use Rattle.words.specs.Writers.{Puts};
+ghost use Rattle.syntax.specs.WordTexts.{numeral, power_text, run, run_text, text_of};
 
 use syntax::{CARET, MINUS};
+use words::writer::Writer;
 
 // Writes the text of a word at the beginning of a buffer, and answers its length.
 pub fn write_word(word: &[u8], text: &mut [u8]) -> usize
@@ -13,87 +15,67 @@ pub fn write_word(word: &[u8], text: &mut [u8]) -> usize
     ensures length { result ≡ length (text_of word.now) }
     ensures text { text.new ≡ written (text_of word.now) text.old }
 {
-    let mut at = 0;
-    let mut i = 0;
-    while i < word.len() {
-        let count = run_length(&word[i..]);
-        at = put_run(text, at, word[i], count);
-        i += count;
-    }
-    at
+    let mut writer = Writer::new(text);
+    put_word(word, &mut writer);
+    writer.len()
 }
 
-// How many equal letters a word begins with.
-fn run_length(word: &[u8]) -> usize
-    requires { 0 < length word.now }
-    ensures within { (1 ≤ result) × (result ≤ length word.now) }
-    ensures run { runs word.now ≡ run (get_or word.now 0 0) result ∷ runs (drop result word.now) }
+// Writes the text of a word, run by run; std's chunk_by, which compares neighbours, was slower on long runs.
+fn put_word(word: &[u8], text: &mut Writer)
+    requires { (length word.now ≤ 63) × (text.old.at + 128 ≤ length text.old.buffer.now) }
+    ensures { Puts text.old (text_of word.now) text.new }
 {
-    let mut i = 1;
-    while i < word.len() {
-        if word[i] != word[0] {
-            return i;
-        }
-        i += 1;
+    let mut rest = word;
+    while let [letter, others @ ..] = rest {
+        let more = repeats(others, *letter);
+        put_run(*letter, 1 + more, text);
+        rest = &others[more..];
     }
-    i
 }
 
-// Writes the text of a run at a place, and answers the place after it.
-fn put_run(text: &mut [u8], at: usize, letter: u8, count: usize) -> usize
-    requires { (1 ≤ count) × (count ≤ 63) × (at + 2 * count < length text.old) }
-    ensures end { result ≡ at + length (run_text (run letter count)) }
-    ensures text { text.new ≡ written_at at (run_text (run letter count)) text.old }
-    ensures most { result ≤ at + 2 * count }
+// How often a word begins with a letter.
+fn repeats(word: &[u8], letter: u8) -> usize
+    ensures within { result ≤ length word.now }
+    ensures same { (i : ℕ) → i < result → get_or word.now i 0 ≡ letter }
+    ensures longest { result < length word.now → get_or word.now result 0 ≡ letter → ⊥ }
+{
+    word.iter().position(|x| *x != letter).unwrap_or(word.len())
+}
+
+// Writes the text of a run.
+fn put_run(letter: u8, count: usize, text: &mut Writer)
+    requires { (1 ≤ count) × (count ≤ 63) × (text.old.at + 2 * count < length text.old.buffer.now) }
+    ensures run { Puts text.old (run_text (run letter count)) text.new }
+    ensures most { text.new.at ≤ text.old.at + 2 * count }
 {
     if count == 1 {
-        return put(text, at, letter);
+        text.put(letter);
+    } else {
+        put_power(letter, text);
+        put_number(count, text);
     }
-    let raised = put_power(text, at, letter);
-    put_number(text, raised, count)
 }
 
-// Writes the small letter of a letter, a caret and the sign of its power at a place, and answers the place after them.
-fn put_power(text: &mut [u8], at: usize, letter: u8) -> usize
-    requires { at + 3 ≤ length text.old }
-    ensures end { result ≡ at + length (power_text letter) }
-    ensures text { text.new ≡ written_at at (power_text letter) text.old }
-    ensures most { result ≤ at + 3 }
+// Writes the small letter of a letter, a caret and the sign of its power; a capital stands before the small letters.
+fn put_power(letter: u8, text: &mut Writer)
+    requires { text.old.at + 3 ≤ length text.old.buffer.now }
+    ensures { Puts text.old (power_text letter) text.new }
 {
-    let base = put(text, at, small(letter));
-    let caret = put(text, base, CARET);
-    if letter < 97 {
-        return put(text, caret, MINUS);
+    if letter < b'a' {
+        text.put_all(&[letter + 32, CARET, MINUS]);
+    } else {
+        text.put_all(&[letter, CARET]);
     }
-    caret
 }
 
-// Writes a number below 100 in fewest digits at a place, and answers the place after it.
-fn put_number(text: &mut [u8], at: usize, number: usize) -> usize
-    requires { (number < 100) × (at + 2 ≤ length text.old) }
-    ensures end { result ≡ at + length (numeral number) }
-    ensures text { text.new ≡ written_at at (numeral number) text.old }
+// Writes a number below 100 in fewest digits.
+fn put_number(number: usize, text: &mut Writer)
+    requires { (number < 100) × (text.old.at + 2 ≤ length text.old.buffer.now) }
+    ensures { Puts text.old (numeral number) text.new }
 {
     if number < 10 {
-        return put(text, at, 48 + number as u8);
+        text.put(b'0' + number as u8);
+    } else {
+        text.put_all(&[b'0' + (number / 10) as u8, b'0' + (number % 10) as u8]);
     }
-    let tens = put(text, at, 48 + (number / 10) as u8);
-    put(text, tens, 48 + (number % 10) as u8)
-}
-
-// Writes a byte at a place, and answers the place after it.
-fn put(text: &mut [u8], at: usize, b: u8) -> usize
-    requires { at < length text.old }
-    ensures end { result ≡ at + 1 }
-    ensures text { text.new ≡ written_at at (b ∷ []) text.old }
-{
-    text[at] = b;
-    at + 1
-}
-
-// The small letter of a letter; the byte of a capital is less than 97.
-fn small(letter: u8) -> u8
-    ensures { result ≡ small_of letter }
-{
-    if letter >= 97 { letter } else { letter + 32 }
 }

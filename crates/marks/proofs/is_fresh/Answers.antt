@@ -1,10 +1,7 @@
 -- `marks::is_fresh` meets its contract.
 use borrow.Author.Rules.{rules}
-use Rattle.marks.proofs.Marking.{fresh_marked, stale_marked, fresh_apart, stale_same}
+use Rattle.marks.proofs.Marking.{stale_marked, fresh_apart, stale_same}
 use Rattle.marks.proofs.is_fresh.Goals as goal
-
-pub returns-then-marks-k-ne0-clause-fresh : goal.returns-then-marks-k-ne0-clause-fresh
-returns-then-marks-k-ne0-clause-fresh c = search (fresh_marked, rules)
 
 pub returns-then-marks-k-ne0-clause-stale : goal.returns-then-marks-k-ne0-clause-stale
 returns-then-marks-k-ne0-clause-stale c = search (stale_marked, rules)

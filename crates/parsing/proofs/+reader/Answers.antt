@@ -52,29 +52,23 @@ factor-overflow_add-end t c = search (size_fits, group_end, rules)
 pub factor-powered-requires-clause-within : goal.factor-powered-requires-clause-within
 factor-powered-requires-clause-within t c = search (group_end, group_power, rules)
 
-pub factor-returns-then-b-eq-GROUP_OPENS-clause-reads : goal.factor-returns-then-b-eq-GROUP_OPENS-clause-reads
-factor-returns-then-b-eq-GROUP_OPENS-clause-reads t c = search (read_group, rules)
+pub factor-returns-in-40-clause-reads : goal.factor-returns-in-40-clause-reads
+factor-returns-in-40-clause-reads t c = search (read_group, rules)
 
-pub factor-powered-requires-2-clause-within : goal.factor-powered-requires-2-clause-within
-factor-powered-requires-2-clause-within t c = search (letter_power, rules)
+pub factor-powered-requires-in_default-clause-within : goal.factor-powered-requires-in_default-clause-within
+factor-powered-requires-in_default-clause-within t c = search (letter_power, rules)
 
-pub factor-returns-clause-reads : goal.factor-returns-clause-reads
-factor-returns-clause-reads t c = search (read_letter, rules)
+pub factor-returns-in_default-clause-reads : goal.factor-returns-in_default-clause-reads
+factor-returns-in_default-clause-reads t c = search (read_letter, rules)
 
 pub product-loop-at-init : goal.product-loop-at-init
 product-loop-at-init t c = search (kept_first, rules)
 
-pub product-returns-then-not-more-clause-sound : goal.product-returns-then-not-more-clause-sound
-product-returns-then-not-more-clause-sound t c = search (read_all, rules)
-
-pub product-returns-then-not-more-clause-reads : goal.product-returns-then-not-more-clause-reads
-product-returns-then-not-more-clause-reads t c = search (read_all, rules)
+pub product-returns-else-starts-clause-reads : goal.product-returns-else-starts-clause-reads
+product-returns-else-starts-clause-reads t c = search (read_all, rules)
 
 pub product-factor-next-requires : goal.product-factor-next-requires
 product-factor-next-requires t c = (search (product_calls, rules), search (factor_readable, factor_full, factor_starts, rules))
-
-pub product-append-length-requires-clause-row_sound : goal.product-append-length-requires-clause-row_sound
-product-append-length-requires-clause-row_sound t c = c.loop-at.invariant.sound
 
 pub product-overflow_add-at : goal.product-overflow_add-at
 product-overflow_add-at t c = search (size_fits, factor_inside, rules)
@@ -85,8 +79,5 @@ product-loop-at-smaller t c = search (factor_less, rules)
 pub product-loop-at-preserved : goal.product-loop-at-preserved
 product-loop-at-preserved t c = search (kept_again, rules)
 
-pub product-returns-clause-sound : goal.product-returns-clause-sound
-product-returns-clause-sound t c = search (read_end, rules)
-
-pub product-returns-clause-reads : goal.product-returns-clause-reads
-product-returns-clause-reads t c = search (read_end, rules)
+pub product-returns-after-loop-at-clause-reads : goal.product-returns-after-loop-at-clause-reads
+product-returns-after-loop-at-clause-reads t c = search (read_end, rules)

@@ -1,18 +1,12 @@
 -- `scanning::shape::check_shape` meets its contract.
 use borrow.Author.Rules.{rules}
 use Rattle.syntax.specs.Scan.{shape_rule}
-use Rattle.scanning.proofs.Signs.{shape_end, shape_fail, shape_pass}
+use Rattle.scanning.proofs.Steps.{shape_pass}
 use Rattle.scanning.proofs.shape.check_shape.Goals as goal
 
 pub loop-i-init : goal.loop-i-init
 unfolding shape_rule
 loop-i-init c = search rules
 
-pub returns-in_default : goal.returns-in_default
-returns-in_default c = search (shape_fail, rules)
-
 pub loop-i-preserved : goal.loop-i-preserved
 loop-i-preserved c = search (shape_pass, rules)
-
-pub returns : goal.returns
-returns c = search (shape_end, rules)

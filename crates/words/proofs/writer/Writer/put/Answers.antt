@@ -1,7 +1,7 @@
--- `writing::put` meets its contract.
+-- `words::writer::Writer::put` meets its contract.
 use borrow.Author.Rules.{rules}
 use Rattle.words.proofs.Buffers.{byte_written}
-use Rattle.writing.proofs.put.Goals as goal
+use Rattle.words.proofs.writer.Writer.put.Goals as goal
 
 pub returns : goal.returns
 returns c = search (byte_written, rules)
