@@ -1,7 +1,7 @@
 -- The numbers of an answer, where the answer is known by an equation, and what the answers mean.
 use Prim.Native.Nat.{ℕ}
 use mathlib.Core.Path.{◌≡◌, refl, ap, ◌∙◌}
-use mathlib.Core.List.{List, [], ◌∷◌}
+use mathlib.Core.List.{List}
 use Rattle.records.specs.declared.answers.Answer.{Answer}
 use Rattle.reduction.specs.Reduction.{test_answer, reduce_answer, reduce_words, reduce_log}
 use Rattle.reduction.specs.declared.answers.Reduction.{Reduction}
@@ -37,11 +37,6 @@ write_of a b e f = e ∙ ap write_numbers f
 
 pub length_of : (a b : Writing) → a ≡ b → a.length ≡ b.length
 length_of a b e = ap (λ (x : Writing). x.length) e
-
--- the seven numbers, each known by an equation
-pub seven : {a b c d e f g a' b' c' d' e' f' g' : ℕ} → a ≡ a' → b ≡ b' → c ≡ c' → d ≡ d' → e ≡ e' → f ≡ f' → g ≡ g'
-    → ◌≡◌ {A = List ℕ} (a ∷ b ∷ c ∷ d ∷ e ∷ f ∷ g ∷ []) (a' ∷ b' ∷ c' ∷ d' ∷ e' ∷ f' ∷ g' ∷ [])
-seven p q r s t u v = λ i. p i ∷ q i ∷ r i ∷ s i ∷ t i ∷ u i ∷ v i ∷ []
 
 -- what the answers mean
 pub test_meaning : (s : List ℕ) → TestMeans s (test_answer s)

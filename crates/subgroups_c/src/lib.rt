@@ -1,7 +1,7 @@
 // The entries for C. Each calls the proved function of its name and puts the answer's numbers into a fixed array, which C sees as a struct.
 #![tactic(auto)]
 
-ghost use Rattle.std.specs.Prelude.{◌≡◌};
+ghost use Rattle.std.specs.Prelude.{◌≡◌, ℕ, List, [], ◌∷◌};
 ghost use Rattle.records.specs.Answers.{refusal_number, refusal_place, verdict_number};
 ghost use Rattle.tidy.specs.Tidy.{tidy_answer, tidy_buffer};
 ghost use Rattle.replay.specs.Replay.{replay_answer, replay_buffer};
@@ -16,100 +16,67 @@ ghost use Rattle.text.specs.Meaning.{ReadMeans, WriteMeans};
 ghost use Rattle.text.specs.Read.{read_answer, read_buffer};
 ghost use Rattle.text.specs.ReadBack.{ReadBack};
 ghost use Rattle.text.specs.Write.{write_answer, write_buffer};
-ghost use Rattle.subgroups_c.specs.Numbers.{is_backward, one_or_zero, plain_numbers, reduction_numbers, test_numbers, write_numbers};
+ghost use Rattle.subgroups_c.specs.Numbers.{is_backward, plain_numbers, reduction_numbers, test_numbers, write_numbers};
 
 use records::answers::{Answer, Verdict};
 use reduction::answers::{Reduction, Tested};
 
-// A verdict as a number.
-fn verdict_number(v: Verdict) -> u64
-    ensures { result ≡ verdict_number v }
-{
-    match v {
-        Verdict::Done => 0,
-        Verdict::Member => 1,
-        Verdict::NotMember => 2,
-        Verdict::Refused(_) => 3,
+// An answer as the seven numbers that C sees as a struct.
+trait Numbered {
+    ghost numbers_of: { Self → List ℕ };
+
+    fn numbers(&self) -> [u64; 7]
+        ensures { result ≡ numbers_of self.now };
+}
+
+// An answer that carries its verdict alone.
+impl Numbered for Answer {
+    ghost numbers_of = { plain_numbers };
+
+    fn numbers(&self) -> [u64; 7] {
+        let [verdict, number, place] = verdict_numbers(self.verdict);
+        [verdict, number, place, 0, 0, 0, 0]
     }
 }
 
-// The number of a refusal.
-fn refusal_number(v: Verdict) -> u64
-    ensures { result ≡ refusal_number v }
-{
-    match v {
-        Verdict::Done => 0,
-        Verdict::Member => 0,
-        Verdict::NotMember => 0,
-        Verdict::Refused(f) => u64::from(f.number()),
+// The answer of test.
+impl Numbered for Tested {
+    ghost numbers_of = { test_numbers };
+
+    fn numbers(&self) -> [u64; 7] {
+        let [verdict, number, place] = verdict_numbers(self.verdict);
+        [verdict, number, place, 0, 0, 0, u64::from(self.reduced)]
     }
 }
 
-// The place of a refusal.
-fn refusal_place(v: Verdict) -> u64
-    ensures { result ≡ refusal_place v }
-{
-    match v {
-        Verdict::Done => 0,
-        Verdict::Member => 0,
-        Verdict::NotMember => 0,
-        Verdict::Refused(f) => f.place as u64,
+// The answer of reduce and of member.
+impl Numbered for Reduction {
+    ghost numbers_of = { reduction_numbers };
+
+    fn numbers(&self) -> [u64; 7] {
+        let [verdict, number, place] = verdict_numbers(self.verdict);
+        [
+            verdict,
+            number,
+            place,
+            self.moves as u64,
+            self.rank as u64,
+            u64::from(self.independent),
+            0,
+        ]
     }
 }
 
-// The numbers of an answer that carries its verdict alone.
-fn plain_numbers(answer: Answer) -> [u64; 7]
-    ensures { result ≡ plain_numbers answer }
+// A verdict as a number, and the number and the place of a refusal.
+fn verdict_numbers(verdict: Verdict) -> [u64; 3]
+    ensures { result ≡ verdict_number verdict ∷ refusal_number verdict ∷ refusal_place verdict ∷ [] }
 {
-    let v = answer.verdict;
-    [
-        verdict_number(v),
-        refusal_number(v),
-        refusal_place(v),
-        0,
-        0,
-        0,
-        0,
-    ]
-}
-
-// 1 for yes and 0 for no.
-fn one_or_zero(yes: bool) -> u64
-    ensures { result ≡ one_or_zero yes }
-{
-    if yes { 1 } else { 0 }
-}
-
-// The numbers of test's answer.
-fn test_numbers(answer: Tested) -> [u64; 7]
-    ensures { result ≡ test_numbers answer }
-{
-    let v = answer.verdict;
-    [
-        verdict_number(v),
-        refusal_number(v),
-        refusal_place(v),
-        0,
-        0,
-        0,
-        one_or_zero(answer.reduced),
-    ]
-}
-
-// The numbers of the answer of reduce or member.
-fn reduction_numbers(answer: Reduction) -> [u64; 7]
-    ensures { result ≡ reduction_numbers answer }
-{
-    let v = answer.verdict;
-    [
-        verdict_number(v),
-        refusal_number(v),
-        refusal_place(v),
-        answer.moves as u64,
-        answer.rank as u64,
-        one_or_zero(answer.independent),
-        0,
-    ]
+    match verdict {
+        Verdict::Done => [0, 0, 0],
+        Verdict::Member => [1, 0, 0],
+        Verdict::NotMember => [2, 0, 0],
+        Verdict::Refused(refusal) => [3, u64::from(refusal.number()), refusal.place as u64],
+    }
 }
 
 // Tidy: each record of a system, freely reduced, into the same slot of the words buffer.
@@ -119,7 +86,7 @@ pub extern "C" fn subgroups_tidy(system: &[u8], words: &mut [u8], numbers: &mut 
     ensures numbers { numbers.new ≡ plain_numbers (tidy_answer system.now words.old) }
 {
     let answer = tidy::tidy(system, words);
-    *numbers = plain_numbers(answer);
+    *numbers = answer.numbers();
 }
 
 // Replay: the words after the moves of a log, which are run backward where `backward` is not 0.
@@ -135,7 +102,7 @@ pub extern "C" fn subgroups_replay(
     ensures numbers { numbers.new ≡ plain_numbers (replay_answer system.now log.now (is_backward backward) words.old) }
 {
     let answer = replay::replay(system, log, backward != 0, words);
-    *numbers = plain_numbers(answer);
+    *numbers = answer.numbers();
 }
 
 // Multiply: the freely reduced word that a product over a system's slots multiplies out to.
@@ -150,7 +117,7 @@ pub extern "C" fn subgroups_multiply(
     ensures numbers { numbers.new ≡ plain_numbers (multiply_answer system.now product.now word.old) }
 {
     let answer = multiply::multiply(system, product, word);
-    *numbers = plain_numbers(answer);
+    *numbers = answer.numbers();
 }
 
 // Test: whether the freely reduced words of a system are reduced.
@@ -160,7 +127,7 @@ pub extern "C" fn subgroups_test(system: &[u8], numbers: &mut [u64; 7])
     ensures means { TestMeans system.now (test_answer system.now) }
 {
     let answer = reduction::test::test(system);
-    *numbers = test_numbers(answer);
+    *numbers = answer.numbers();
 }
 
 // Reduce: the reduced words and the log of the moves.
@@ -177,7 +144,7 @@ pub extern "C" fn subgroups_reduce(
     ensures means { ReduceMeans system.now words.old log.old (reduce_answer system.now words.old log.old) words.new log.new }
 {
     let answer = reduction::reduce::reduce(system, words, log);
-    *numbers = reduction_numbers(answer);
+    *numbers = answer.numbers();
 }
 
 // Ask: the verdict of a reduced system on a target and, for a member, the product over the system's freely reduced words.
@@ -193,7 +160,7 @@ pub extern "C" fn subgroups_ask(
     ensures means { AskMeans system.now target.now product.old (ask_answer system.now target.now product.old) product.new }
 {
     let answer = asking::ask(system, target, product);
-    *numbers = plain_numbers(answer);
+    *numbers = answer.numbers();
 }
 
 // Member: all that reduce writes, the verdict on a target and, for a member, the product over the reduced words.
@@ -214,7 +181,7 @@ pub extern "C" fn subgroups_member(
     ensures in_turn { NotRefused (member_answer system.now target.now words.old log.old product.old).verdict → InTurn system.now target.now words.old log.old product.old (member_answer system.now target.now words.old log.old product.old) words.new log.new product.new }
 {
     let answer = membership::member(system, target, words, log, product);
-    *numbers = reduction_numbers(answer);
+    *numbers = answer.numbers();
 }
 
 // Read: the freely reduced word that a text with powers and commutators stands for, as a record.
@@ -225,7 +192,7 @@ pub extern "C" fn subgroups_read_text(text: &[u8], word: &mut [u8], numbers: &mu
     ensures means { ReadMeans text.now word.old (read_answer text.now word.old) word.new }
 {
     let answer = text::read(text, word);
-    *numbers = plain_numbers(answer);
+    *numbers = answer.numbers();
 }
 
 // Write: the text of the word in a record, and its length.
@@ -245,5 +212,5 @@ pub extern "C" fn subgroups_write_text(
     let answer = text::write(word, text);
     *length = answer.length as u64;
     let verdict = answer.verdict;
-    *numbers = plain_numbers(Answer { verdict });
+    *numbers = Answer { verdict }.numbers();
 }

@@ -1,7 +1,0 @@
--- `subgroups_c::reduction_numbers` meets its contract.
-use borrow.Author.Rules.{rules}
-use Rattle.subgroups_c.proofs.Numbers.{seven}
-use Rattle.subgroups_c.proofs.reduction_numbers.Goals as goal
-
-pub returns : goal.returns
-returns c = search (seven, rules)
