@@ -8,7 +8,7 @@ ghost use Rattle.asking.specs.Asking.{ask_answer, ask_product, question_rules, r
 ghost use Rattle.asking.specs.Meaning.{AskMeans};
 
 use factoring::factor_target;
-use records::answers::{Answer, Refusal, Verdict, answer_of, check_that};
+use records::answers::{Answer, Refusal, Verdict, check_that};
 use records::record::{RECORD, check_target};
 use records::refusals::Reason;
 use reduction::test::is_reduced;
@@ -31,7 +31,7 @@ fn ask_records(system: &[u8], target: &[u8], product: &mut [u8]) -> Answer
 {
     let checked = check_question(system, target);
     let Ok(()) = checked else {
-        return answer_of(checked);
+        return Answer::from(checked);
     };
     let n = system.len() / RECORD;
     let mut letters = [0u8; 1024];
@@ -39,7 +39,7 @@ fn ask_records(system: &[u8], target: &[u8], product: &mut [u8]) -> Answer
     load(system, &mut letters, &mut lengths);
     let ready = check_ready(&letters, &lengths, n, product.len());
     let Ok(()) = ready else {
-        return answer_of(ready);
+        return Answer::from(ready);
     };
     let verdict = ask_held(target, n, &letters, &lengths, product);
     Answer { verdict }

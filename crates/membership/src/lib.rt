@@ -15,7 +15,7 @@ use records::answers::{Refusal, Verdict, check_that};
 use records::record::{RECORD, check_target};
 use records::refusals::Reason;
 use reduction::answers::Reduction;
-use reduction::reduce::{answer_with, reduce_held, refused};
+use reduction::reduce::{answer_with, reduce_held};
 use slots::checks::{check_room, check_system};
 use slots::held::store;
 
@@ -53,7 +53,7 @@ fn member_records(
 {
     let checked = check_member(system, target, words.len(), product.len());
     let Ok(()) = checked else {
-        return refused(checked);
+        return Reduction::from(checked);
     };
     decide(system, target, words, log, product)
 }
@@ -78,7 +78,7 @@ fn decide(
     let summary = reduce_held(system, &mut letters, &mut lengths, log);
     let ended = summary.ended;
     let Ok(()) = ended else {
-        return refused(ended);
+        return Reduction::from(ended);
     };
     let verdict = conclude(target, n, &letters, &lengths, words, product);
     answer_with(summary, verdict)

@@ -12,7 +12,7 @@ ghost use Rattle.multiply.specs.Multiply.{multiply_answer, multiply_buffer, mult
 ghost use Rattle.multiply.specs.SlotLetters.{slot_rule};
 
 use crate::letters::{check_slots, slot_of};
-use records::answers::{Answer, Refusal, answer_of, check_that};
+use records::answers::{Answer, Refusal, check_that};
 use records::record::{RECORD, check_target, word_length, write_record};
 use records::refusals::Reason;
 use slots::checks::{check_room, check_system};
@@ -28,16 +28,16 @@ pub fn multiply(system: &[u8], product: &[u8], word: &mut [u8]) -> Answer
 {
     let checked = check_multiply(system, product, word.len());
     let Ok(()) = checked else {
-        return answer_of(checked);
+        return Answer::from(checked);
     };
     let mut list = [0u8; 4096];
     let size = product_word(system, product, &mut list);
     let fitted = check_that(size <= 63, Reason::WordTooLong, 0);
     let Ok(()) = fitted else {
-        return answer_of(fitted);
+        return Answer::from(fitted);
     };
     write_record(&list[0..size], &mut word[0..64]);
-    answer_of(fitted)
+    Answer::from(fitted)
 }
 
 // Refusals 1 to 5, 6, 9 and 10.

@@ -51,16 +51,25 @@ pub fn check_that(holds: bool, reason: Reason, place: usize) -> Result<(), Refus
     if holds { Ok(()) } else { refuse(reason, place) }
 }
 
+// The verdict of a call that gives nothing else, from what its tests found.
+impl From<Result<(), Refusal>> for Verdict {
+    ghost from_gives = { λ checked verdict. verdict ≡ (answer_of checked).verdict };
+
+    fn from(checked: Result<(), Refusal>) -> Verdict {
+        match checked {
+            Ok(()) => Verdict::Done,
+            Err(refusal) => Verdict::Refused(refusal),
+        }
+    }
+}
+
 // The answer of a call that gives nothing but its verdict, from what its tests found.
-pub fn answer_of(checked: Result<(), Refusal>) -> Answer
-    ensures { result ≡ answer_of checked }
-{
-    match checked {
-        Ok(()) => Answer {
-            verdict: Verdict::Done,
-        },
-        Err(refusal) => Answer {
-            verdict: Verdict::Refused(refusal),
-        },
+impl From<Result<(), Refusal>> for Answer {
+    ghost from_gives = { λ checked answer. answer ≡ answer_of checked };
+
+    fn from(checked: Result<(), Refusal>) -> Answer {
+        Answer {
+            verdict: Verdict::from(checked),
+        }
     }
 }

@@ -1,8 +1,11 @@
 // What reduce and test answer.
-use records::answers::Verdict;
+ghost use Rattle.std.specs.Prelude.{◌≡◌};
+ghost use Rattle.reduction.specs.Reduction.{refused_reduction, refused_test};
+
+use records::answers::{Refusal, Verdict};
 
 // The answer of reduce and of member: the number of moves made, the rank, and whether the given words are independent.
-#[derive(Clone, Copy)]
+#[derive(Clone, Copy, Debug, PartialEq, Eq)]
 pub struct Reduction {
     pub verdict: Verdict,
     pub moves: usize,
@@ -11,8 +14,34 @@ pub struct Reduction {
 }
 
 // The answer of test: whether the system is reduced.
-#[derive(Clone, Copy)]
+#[derive(Clone, Copy, Debug, PartialEq, Eq)]
 pub struct Tested {
     pub verdict: Verdict,
     pub reduced: bool,
+}
+
+// The answer of reduce and of member where a test ended the call.
+impl From<Result<(), Refusal>> for Reduction {
+    ghost from_gives = { λ checked answer. answer ≡ refused_reduction checked };
+
+    fn from(checked: Result<(), Refusal>) -> Reduction {
+        Reduction {
+            verdict: Verdict::from(checked),
+            moves: 0,
+            rank: 0,
+            independent: false,
+        }
+    }
+}
+
+// The answer of test where a test of the system ended the call.
+impl From<Result<(), Refusal>> for Tested {
+    ghost from_gives = { λ checked answer. answer ≡ refused_test checked };
+
+    fn from(checked: Result<(), Refusal>) -> Tested {
+        Tested {
+            verdict: Verdict::from(checked),
+            reduced: false,
+        }
+    }
 }

@@ -10,7 +10,7 @@ ghost use Rattle.slots.specs.Systems.{freely_reduced_words, slots};
 ghost use Rattle.moves.specs.Logs.{log_of};
 ghost use Rattle.runs.specs.Runs.{room_for, stopped};
 ghost use Rattle.reduction.specs.Meaning.{ReduceMeans};
-ghost use Rattle.reduction.specs.Reduction.{reduce_answer, reduce_log, reduce_words, refused_reduction, summed};
+ghost use Rattle.reduction.specs.Reduction.{reduce_answer, reduce_log, reduce_words, summed};
 
 use crate::answers::Reduction;
 use records::answers::{Refusal, Verdict, check_that};
@@ -48,14 +48,14 @@ fn reduce_records(system: &[u8], words: &mut [u8], log: &mut [u8]) -> Reduction
 {
     let checked = check_system_room(system, words.len());
     let Ok(()) = checked else {
-        return refused(checked);
+        return Reduction::from(checked);
     };
     let mut letters = [0u8; 1024];
     let mut lengths = [0usize; 16];
     let summary = reduce_held(system, &mut letters, &mut lengths, log);
     let ended = summary.ended;
     let Ok(()) = ended else {
-        return refused(ended);
+        return Reduction::from(ended);
     };
     store(&letters, &lengths, system.len() / RECORD, words);
     answer_with(summary, Verdict::Done)
@@ -70,26 +70,6 @@ pub fn answer_with(summary: Summary, verdict: Verdict) -> Reduction
         moves: summary.moves,
         rank: summary.rank,
         independent: summary.independent,
-    }
-}
-
-// The answer of reduce and of member where a test failed.
-pub fn refused(checked: Result<(), Refusal>) -> Reduction
-    ensures { result ≡ refused_reduction checked }
-{
-    match checked {
-        Ok(()) => Reduction {
-            verdict: Verdict::Done,
-            moves: 0,
-            rank: 0,
-            independent: false,
-        },
-        Err(refusal) => Reduction {
-            verdict: Verdict::Refused(refusal),
-            moves: 0,
-            rank: 0,
-            independent: false,
-        },
     }
 }
 

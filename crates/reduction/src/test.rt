@@ -3,11 +3,11 @@ ghost use Rattle.std.specs.Prelude.{◌≡◌};
 ghost use Rattle.slots.specs.Held.{Held, held};
 ghost use Rattle.runs.specs.Runs.{stopped};
 ghost use Rattle.reduction.specs.Meaning.{TestMeans};
-ghost use Rattle.reduction.specs.Reduction.{refused_test, test_answer};
+ghost use Rattle.reduction.specs.Reduction.{test_answer};
 
 use crate::answers::Tested;
 use inverses::invert_words;
-use records::answers::{Refusal, Verdict};
+use records::answers::Verdict;
 use records::record::RECORD;
 use runs::find_move;
 use slots::checks::check_system;
@@ -27,7 +27,7 @@ fn test_records(system: &[u8]) -> Tested
 {
     let checked = check_system(system);
     let Ok(()) = checked else {
-        return untested(checked);
+        return Tested::from(checked);
     };
     let n = system.len() / RECORD;
     let mut letters = [0u8; 1024];
@@ -49,20 +49,4 @@ pub fn is_reduced(letters: &[u8], lengths: &[usize], n: usize) -> bool
     let mut marks = [0u8; 256];
     let found = find_move(letters, &inverses, lengths, n, 0, &mut marks);
     found.is_none()
-}
-
-// The answer of a test that was refused.
-fn untested(checked: Result<(), Refusal>) -> Tested
-    ensures { result ≡ refused_test checked }
-{
-    match checked {
-        Ok(()) => Tested {
-            verdict: Verdict::Done,
-            reduced: false,
-        },
-        Err(refusal) => Tested {
-            verdict: Verdict::Refused(refusal),
-            reduced: false,
-        },
-    }
 }

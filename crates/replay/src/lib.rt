@@ -8,7 +8,7 @@ ghost use Rattle.replay.specs.Replay.{place_at, replay_answer, replay_buffer, re
 
 use moves::log::{MOVE, check_log, read_move};
 use moves::make::make_move;
-use records::answers::{Answer, Refusal, answer_of, check_that};
+use records::answers::{Answer, Refusal, check_that};
 use records::record::RECORD;
 use records::refusals::Reason;
 use slots::checks::{check_room, check_system};
@@ -22,7 +22,7 @@ pub fn replay(system: &[u8], log: &[u8], backward: bool, words: &mut [u8]) -> An
 {
     let checked = check_replay(system, log, words.len());
     let Ok(()) = checked else {
-        return answer_of(checked);
+        return Answer::from(checked);
     };
     let n = system.len() / RECORD;
     let mut letters = [0u8; 1024];
@@ -30,10 +30,10 @@ pub fn replay(system: &[u8], log: &[u8], backward: bool, words: &mut [u8]) -> An
     load(system, &mut letters, &mut lengths);
     let ran = run(log, backward, n, &mut letters, &mut lengths);
     let Ok(()) = ran else {
-        return answer_of(ran);
+        return Answer::from(ran);
     };
     store(&letters, &lengths, n, words);
-    answer_of(ran)
+    Answer::from(ran)
 }
 
 // Refusals 1 to 5, 7, 8 and 10.

@@ -8,7 +8,7 @@ ghost use Rattle.text.specs.ReadBack.{ReadBack};
 ghost use Rattle.text.specs.Write.{write_answer, write_buffer, write_rules, writing_of};
 
 use parsing::product;
-use records::answers::{Answer, Refusal, Verdict, answer_of, check_that};
+use records::answers::{Answer, Refusal, Verdict, check_that};
 use records::record::{RECORD, check_target, word_length, write_record};
 use records::refusals::Reason;
 use scanning::checks::{DEEPEST, check_text};
@@ -32,7 +32,7 @@ pub fn read(text: &[u8], word: &mut [u8]) -> Answer
     ensures means { ReadMeans text.now word.old result word.new }
 {
     let checked = read_checked(text, word);
-    answer_of(checked)
+    Answer::from(checked)
 }
 
 // Reads a text into the lent buffer where nothing is refused.

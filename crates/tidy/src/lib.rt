@@ -4,7 +4,7 @@
 ghost use Rattle.std.specs.Prelude.{◌≡◌};
 ghost use Rattle.tidy.specs.Tidy.{tidy_answer, tidy_buffer};
 
-use records::answers::{Answer, answer_of};
+use records::answers::Answer;
 use records::record::RECORD;
 use slots::checks::check_system_room;
 use slots::held::{load, store};
@@ -16,11 +16,11 @@ pub fn tidy(system: &[u8], words: &mut [u8]) -> Answer
 {
     let checked = check_system_room(system, words.len());
     let Ok(()) = checked else {
-        return answer_of(checked);
+        return Answer::from(checked);
     };
     let mut letters = [0u8; 1024];
     let mut lengths = [0usize; 16];
     load(system, &mut letters, &mut lengths);
     store(&letters, &lengths, system.len() / RECORD, words);
-    answer_of(checked)
+    Answer::from(checked)
 }

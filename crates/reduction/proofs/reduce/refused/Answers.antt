@@ -1,8 +1,0 @@
--- `reduction::reduce::refused` meets its contract.
-use Rattle.reduction.proofs.reduce.refused.Goals as goal
-
-pub returns-in-Ok : goal.returns-in-Ok
-returns-in-Ok c = cc
-
-pub returns-in-Err : goal.returns-in-Err
-returns-in-Err c = cc
