@@ -171,9 +171,6 @@ marked_none n S m k i hk hi h = absurd (h (zeros_zero m (k * 16 + i)))
 
 -- whether a pair has to be tried
 module _ (marks : List ℕ) (k i : ℕ) where
-  pub fresh_marked : false ≡ true → i ≡ k → ⊥
-  fresh_marked h d = true≢false (sym h)
-
   pub stale_marked : (get_or marks (k * 16 + i) 0 ≡ 0 → ⊥) → false ≡ false → (i ≡ k → ⊥) → get_or marks (k * 16 + i) 0 ≡ 0 → ⊥
   stale_marked m h n z = m z
 

@@ -1,23 +1,12 @@
 -- A record written: full stops one at a time, then the word, then the line feed.
-use Prim.Native.Nat.{◌+◌, ◌-◌, ◌<◌, ◌≤◌, suc, ℕ}
-use mathlib.Core.List.{List, [], ◌++◌, ◌∷◌, append_assoc, append-nil}
+use Prim.Native.Nat.{◌+◌, ◌-◌, ◌≤◌, suc, ℕ}
+use mathlib.Core.List.{List, [], ◌++◌, ◌∷◌, append_assoc}
 use mathlib.Core.Path.{◌∙◌, ◌≡◌, ap, sym}
 use native.Mathlib.Omega.{arith}
 use lib.ListN.{drop, length, length-append, length-replicate, replicate-append-replicate, set}
-use lib.Seq.{drop_at, drop-length, set_at}
-use borrow.Author.Fill.{fill_more}
+use lib.Seq.{drop_at, set_at}
 use Rattle.words.specs.Buffers.{written}
 use Rattle.records.specs.Records.{blanks, record_of}
-
--- a buffer filled with full stops, one at a time
-module _ (d : List ℕ) (i : ℕ) {out : List ℕ} (e : out ≡ blanks i ++ drop i d) (sized : length out ≡ length d) where
-  pub blank_more : i < length out → set out i 46 ≡ blanks (i + 1) ++ drop (i + 1) d
-  blank_more h = rw e (fill_more i 46 d (omega arith))
-
-  pub blank_all : length out ≤ i → i ≤ length d → out ≡ blanks (length d)
-  blank_all l h =
-      let same : i ≡ length d = omega arith in
-      rw (e, same, drop-length, append-nil)
 
 -- the full stops that a word leaves, up to the last
 blanks-after : (k n : ℕ) → k ≤ n → drop k (blanks (suc n)) ≡ blanks (n - k) ++ (46 ∷ [])

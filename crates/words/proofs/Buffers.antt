@@ -1,11 +1,11 @@
 -- Buffers that a loop reads or writes one byte at a time.
 use Prim.Native.Nat.{◌+◌, ◌-◌, ◌<◌, ◌≤◌, suc, zero, ℕ}
 use mathlib.Core.List.{List, [], ◌++◌, ◌∷◌, append_assoc, append-nil}
-use mathlib.Core.Path.{◌∙◌, ◌≡◌, ap, refl}
+use mathlib.Core.Path.{◌≡◌, ap, refl}
 use native.Mathlib.Nat.{suc-add, zero-add}
 use native.Mathlib.Numerals.{add-one}
 use native.Mathlib.Omega.{arith}
-use lib.ListN.{drop, drop_of_length-le, get_or, length, length-append, length-drop, length-set, length-take, set, take}
+use lib.ListN.{drop, drop_of_length-le, get_or, length, length-append, length-drop, length-take, set, take}
 use lib.Seq.{drop-append_seam, drop-cons, drop-drop, drop-length, drop-nil, set_split, take_all, take-append_seam, take_at}
 use borrow.Rule.Slice.PartMut.{put_mid}
 use Rattle.words.specs.Buffers.{written, written_at}
@@ -26,10 +26,6 @@ front_short s n most h = rw (length-take (n - 0) s) (omega arith)
 -- and what is left from a place on
 pub rest_part : (s : List ℕ) (k : ℕ) → take (length s - k) (drop k s) ≡ drop k s
 rest_part s k = take_all (length s - k) (drop k s) (omega (arith, length-drop k s))
-
--- a store keeps a buffer's length
-pub same_after : (l d : List ℕ) (i v : ℕ) → length l ≡ length d → length (set l i v) ≡ length d
-same_after l d i v e = length-set l i v ∙ e
 
 -- what was written at the beginning of a lent buffer
 pub written-take : (new buffer : List ℕ) (n : ℕ) → length new ≡ n → take n (written new buffer) ≡ new
