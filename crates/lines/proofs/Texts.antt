@@ -1,4 +1,4 @@
--- Texts put one after the other into a buffer, and numbers in decimal digits.
+-- Numbers in decimal digits, put after a line.
 use Prim.Native.Nat.{◌*◌, ◌-◌, ◌/◌, ◌<◌, ◌^◌, ◌≤◌, suc, zero, ℕ}
 use mathlib.Core.List.{List, ◌++◌}
 use mathlib.Core.Logic.{inl, inr}
