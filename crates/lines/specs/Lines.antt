@@ -1,5 +1,5 @@
 -- The lines that the program prints.
-use Rattle.std.specs.Prelude.{◌*◌, ℕ, Bool, cond, false, true, List, [], ◌++◌, ◌∷◌, take}
+use Rattle.std.specs.Prelude.{◌*◌, ℕ, Bool, cond, false, true, List, [], ◌++◌, ◌∷◌, take, Err, Ok}
 use Prim.Native.String.{String}
 use Rattle.records.specs.declared.answers.Refusal.{Refusal}
 use Rattle.records.specs.declared.answers.Verdict.{Verdict}
@@ -7,7 +7,6 @@ use Rattle.records.specs.declared.answers.Verdict.TheVariants.{Done, Member, Not
 use Rattle.moves.specs.Logs.{move_size}
 use Rattle.reduction.specs.declared.answers.Reduction.{Reduction}
 use Rattle.lines.specs.Text.{bytes_in, decimal, yes_or_no}
-use Rattle.std.specs.Prelude.{Err, Ok}
 use Rattle.records.specs.Refusals.{Checked}
 use Rattle.records.specs.Reasons.{number_of}
 

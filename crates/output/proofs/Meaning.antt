@@ -3,7 +3,7 @@ use Prim.Native.Nat.{◌*◌, ◌-◌, ◌<◌, ◌≤◌, ℕ}
 use mathlib.Core.Bool.{false, true}
 use mathlib.Core.List.{List}
 use mathlib.Core.Logic.{inl, inr}
-use Rattle.std.specs.Prelude.{Some}
+use Rattle.std.specs.Prelude.{Some, Err, Ok}
 use mathlib.Core.Path.{◌∙◌, ◌≡◌, ap, refl, sym}
 use native.Mathlib.Omega.{arith}
 use lib.Dec.{leb}
@@ -27,11 +27,9 @@ use Rattle.input.specs.Input.{CountOf, Holds}
 use Rattle.lines.specs.Lines.{refusal_in, refusal_line}
 use Rattle.output.specs.Meaning.{Decided, PrintMeans, WellFormed}
 use Rattle.output.specs.Output.{answer, answer_output, given_system, given_target, input_rules, log, output_from, program_log, product, program_product, program_output, words, program_words}
-use Rattle.printing.specs.Printing.{Prints}
-use Rattle.printing.specs.Printing.{Printed}
+use Rattle.printing.specs.Printing.{Prints, Printed}
 use Rattle.output.proofs.Calling.{refused_from, size-most}
 use Rattle.records.specs.declared.refusals.Reason.TheVariants.{LogBufferShort, SystemTooLong}
-use Rattle.std.specs.Prelude.{Err, Ok}
 
 -- a length over 1,088 is refused with 2
 long_refused : (n : ℕ) → 1088 < n → input_rules n ≡ refusal SystemTooLong 0

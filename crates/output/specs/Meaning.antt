@@ -1,6 +1,6 @@
 -- What the printed bytes mean, for the whole input of which bytes were kept.
 use Rattle.records.specs.declared.refusals.Reason.TheVariants.{LogBufferShort}
-use Rattle.std.specs.Prelude.{◌≤◌, ℕ, cond, List, [], ◌++◌, ◌≡◌, length}
+use Rattle.std.specs.Prelude.{◌≤◌, ℕ, cond, List, [], ◌++◌, ◌≡◌, length, Ok}
 use Rattle.words.specs.Buffers.{written}
 use Rattle.records.specs.Refusals.{target_rules}
 use Rattle.slots.specs.Refusals.{system_rules}
@@ -10,8 +10,6 @@ use Rattle.asking.specs.Meaning.{Answered, Decides}
 use Rattle.lines.specs.Lines.{first_line, is_member, refusal_line}
 use Rattle.output.specs.Output.{given_system, given_target, input_rules, program_output}
 use Rattle.printing.specs.Printing.{Printed}
-use Rattle.std.specs.Prelude.{Ok}
-use Rattle.std.specs.Prelude.{Ok}
 
 -- an input of 1 to 17 records, all well formed
 pub record WellFormed (input : List ℕ) : Type 0 where

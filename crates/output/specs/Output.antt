@@ -1,14 +1,11 @@
 -- The program's whole output, from its whole input.
-use Rattle.std.specs.Prelude.{◌%◌, ◌-◌, ℕ, cond, not, List, eqb, leb, drop, length, replicate, take}
-use Rattle.std.specs.Prelude.{None, Option, Some}
-use Rattle.records.specs.Refusals.{◌and_then◌, must}
+use Rattle.std.specs.Prelude.{◌%◌, ◌-◌, ℕ, cond, not, List, eqb, leb, drop, length, replicate, take, None, Option, Some, Err, Ok}
+use Rattle.records.specs.Refusals.{◌and_then◌, must, Checked}
 use Rattle.slots.specs.Systems.{slots}
 use Rattle.reduction.specs.declared.answers.Reduction.{Reduction}
 use Rattle.membership.specs.Membership.{member_answer, member_log, member_product, member_words}
 use Rattle.lines.specs.Lines.{answer_lines, lines_after, refusal_in, refusal_line}
 use Rattle.records.specs.declared.refusals.Reason.TheVariants.{SystemTooLong, SystemUneven, TargetOrProductMalformed}
-use Rattle.std.specs.Prelude.{Err, Ok}
-use Rattle.records.specs.Refusals.{Checked}
 
 -- "The program takes the last record on its standard input as the target and the earlier ones as the system"
 abbrev pub given_system : List ℕ → List ℕ

@@ -28,8 +28,7 @@ pub fn print(kept: &[u8], size: usize, out: &mut [u8]) -> Result<usize, Unprinte
 fn print_input(kept: &[u8], size: usize, out: &mut [u8]) -> Result<usize, Unprinted>
     ensures { Prints (output_from kept.now size) out.old result out.new }
 {
-    let checked = check_input(size);
-    let Err(refusal) = checked else {
+    let Err(refusal) = check_input(size) else {
         return print_kept(kept, size, out);
     };
     print_refusal(refusal, out)
@@ -59,27 +58,22 @@ fn print_kept(kept: &[u8], size: usize, out: &mut [u8]) -> Result<usize, Unprint
     requires { input_rules size ≡ Ok tt }
     ensures { Prints (output_from kept.now size) out.old result out.new }
 {
-    if kept.len() < size {
+    let Some(records) = kept.get(..size) else {
         return Err(Unprinted::Missing);
-    }
-    print_answer(&kept[0..size], out)
+    };
+    print_answer(records, out)
 }
 
 // Asks member about the last record, with the earlier ones as the system, and prints its answer.
 fn print_answer(records: &[u8], out: &mut [u8]) -> Result<usize, Unprinted>
-    requires { (64 ≤ length records.now) × (length records.now ≤ 1088) }
+    requires least { 64 ≤ length records.now }
+    requires most { length records.now ≤ 1088 }
     ensures { Prints (Some (answer_output records.now)) out.old result out.new }
 {
-    let mut words = [0u8; 1024];
-    let mut log = [0u8; 65536];
-    let mut product = [0u8; 64];
-    let split = records.len() - RECORD;
-    let answer = member(
-        &records[0..split],
-        &records[split..],
-        &mut words,
-        &mut log,
-        &mut product,
-    );
-    print_reduction(answer, split / RECORD, &words, &log, &product, out)
+    let (system, target) = records.split_at(records.len() - RECORD);
+    let mut words = [0; 1024];
+    let mut log = [0; 65536];
+    let mut product = [0; RECORD];
+    let answer = member(system, target, &mut words, &mut log, &mut product);
+    print_reduction(answer, system.len() / RECORD, &words, &log, &product, out)
 }

@@ -1,6 +1,5 @@
 -- What printing answers and leaves in the lent buffer.
-use Rattle.std.specs.Prelude.{◌≤◌, ℕ, cond, List, ◌≡◌, leb, length}
-use Rattle.std.specs.Prelude.{Err, None, Ok, Option, Result, Some}
+use Rattle.std.specs.Prelude.{◌≤◌, ℕ, cond, List, ◌≡◌, leb, length, Err, None, Ok, Option, Result, Some}
 use Rattle.words.specs.Buffers.{written}
 use Rattle.printing.specs.declared.answers.Unprinted.{Unprinted}
 use Rattle.printing.specs.declared.answers.Unprinted.TheVariants.{Missing, Short}
