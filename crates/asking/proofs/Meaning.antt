@@ -38,7 +38,8 @@ use Rattle.slots.proofs.Systems.{loaded_freely_reduced, system-few}
 use Rattle.multiply.specs.Multiply.{multiply_rules, multiply_tests, product_word}
 use Rattle.multiply.specs.SlotLetters.{has_slot, slot_rule}
 use Rattle.runs.specs.Runs.{stopped}
-use Rattle.reduction.proofs.Meaning.{tested_means, words-length}
+use Rattle.slots.proofs.RoundTrip.{words-length}
+use Rattle.reduction.proofs.Meaning.{tested_means}
 use Rattle.factoring.specs.TargetProduct.{is_found, product_after, product_for, target_word}
 use Rattle.asking.specs.Asking.{ask_answer, ask_found, ask_product, ask_tests, asked_of, question_rules, ready_rules, verdict_of}
 use Rattle.asking.specs.Meaning.{Answered, AskMeans, Decides, EnoughToAsk}

@@ -1,12 +1,11 @@
 -- The call multiply: its tests in their order, what they leave to the code after them, and the answer and the buffer from the word that
--- comes out. Refusal 12 looks at the length of that word alone, not at what stood in the list on the way.
-use Prim.Native.Nat.{◌-◌, ◌≤◌, ℕ}
+-- comes out. Refusal 12 looks at the length of that word alone, not at what it was on the way.
+use Prim.Native.Nat.{◌≤◌, ℕ}
 use mathlib.Core.List.{List, ◌++◌}
 use mathlib.Core.Path.{◌∙◌, ◌≡◌, ap, sym}
 use native.Mathlib.Omega.{arith}
 use lib.Dec.{leb}
-use lib.ListN.{drop, length, take}
-use lib.Seq.{length-take-le}
+use lib.ListN.{drop, length}
 use borrow.Author.Tests.{leb-true}
 use Rattle.words.specs.Buffers.{written}
 use Rattle.records.specs.Records.{record_of}
@@ -17,7 +16,6 @@ use Rattle.records.proofs.Targets.{target-sized}
 use Rattle.slots.specs.Refusals.{system_rules, word_room}
 use Rattle.slots.specs.Systems.{slots}
 use Rattle.slots.proofs.Systems.{record-length, room_enough, system-size}
-use Rattle.words.proofs.Buffers.{front_short}
 use Rattle.multiply.specs.Multiply.{multiply_rules, multiply_tests, product_word}
 use Rattle.multiply.specs.SlotLetters.{slot_rule}
 use Rattle.records.specs.declared.refusals.Reason.TheVariants.{WordTooLong}
@@ -51,28 +49,24 @@ module _ (s p : List ℕ) (room : ℕ) {x : Checked} (tests : x ≡ multiply_tes
     pub passed_room : 64 ≤ room
     passed_room = room_enough 64 room (fine_next (slot_rule (slots s) p) _ past_target)
 
-    module _ (list : List ℕ) (size : ℕ) (told : take size list ≡ product_word s p) (within : size ≤ 4096) (full : length list ≡ 4096) where
-      comes_to : length (product_word s p) ≡ size
-      comes_to = ap length (sym told) ∙ length-take-le size list (omega arith)
-
+    module _ (w : List ℕ) (size : ℕ) (told : w ≡ product_word s p) (sized : size ≡ length w) where
       -- refusal 12
       pub rules_told : {y : Checked} → y ≡ must (leb size 63) WordTooLong 0 → y ≡ multiply_rules s p room
       unfolding multiply_rules
-      rules_told e = then_fine _ _ tests passed (e ∙ ap (λ (n : ℕ). must (leb n 63) WordTooLong 0) (sym comes_to))
+      rules_told e = then_fine _ _ tests passed (e ∙ ap (λ (n : ℕ). must (leb n 63) WordTooLong 0) (sized ∙ ap length told))
 
       -- the record of that word at the beginning of the buffer, and the bytes after it as they were
-      pub word-written : {y : List ℕ} (buffer : List ℕ) → size ≤ 63 → y ≡ record_of (take (size - 0) list)
+      pub word-written : {y : List ℕ} (letters buffer : List ℕ) → size ≤ 63 → letters ≡ w → y ≡ record_of letters
           → y ++ drop 64 buffer ≡ written (record_of (product_word s p)) buffer
-      word-written {y} buffer h e =
-          let same : size - 0 ≡ size = omega arith in
-          let word_is : take (size - 0) list ≡ product_word s p = ap (λ (k : ℕ). take k list) same ∙ told in
-          let long : 64 ≡ length (record_of (product_word s p)) = sym (record-length (product_word s p) (omega (arith, comes_to))) in
-          ap (λ (l : List ℕ). l ++ drop 64 buffer) (e ∙ ap record_of word_is)
-          ∙ ap (λ (k : ℕ). record_of (product_word s p) ++ drop k buffer) long
+      word-written {y} letters buffer h same e =
+          let record_is : y ≡ record_of (product_word s p) = e ∙ ap record_of (same ∙ told) in
+          let long : 64 ≡ length (record_of (product_word s p)) = sym (record-length (product_word s p) (omega (arith, sized ∙ ap length told))) in
+          ap (λ (l : List ℕ). l ++ drop 64 buffer) record_is ∙ ap (λ (k : ℕ). record_of (product_word s p) ++ drop k buffer) long
 
 -- a word that passed refusal 12
 pub passed_short : (size : ℕ) {y : Checked} → y ≡ must (leb size 63) WordTooLong 0 → y ≡ Ok tt → size ≤ 63
 passed_short size e h = leb-true size 63 (must_fine (leb size 63) WordTooLong 0 (sym e ∙ h))
 
-pub piece_short : (size : ℕ) (list : List ℕ) {y : Checked} → y ≡ must (leb size 63) WordTooLong 0 → y ≡ Ok tt → length (take (size - 0) list) ≤ 63
-piece_short size list e h = front_short list size 63 (passed_short size e h)
+pub letters_short : (size : ℕ) (w letters : List ℕ) {y : Checked} → size ≡ length w → letters ≡ w → y ≡ must (leb size 63) WordTooLong 0 → y ≡ Ok tt
+    → length letters ≤ 63
+letters_short size w letters sized same e h = omega (arith, sized, ap length same, passed_short size e h)

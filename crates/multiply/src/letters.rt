@@ -11,13 +11,8 @@ use records::refusals::Reason;
 pub fn slot_of(b: u8) -> usize
     ensures { result ≡ (factor_of b).slot }
 {
-    if b < 65 {
-        return 0;
-    }
-    if b < 97 {
-        return b as usize - 65;
-    }
-    b as usize - 97
+    let first = if b < b'a' { b'A' } else { b'a' };
+    b.saturating_sub(first) as usize
 }
 
 // Refusal 9: every letter of a product names one of the first n slots.
@@ -25,14 +20,11 @@ pub fn check_slots(n: usize, product: &[u8]) -> Result<(), Refusal>
     requires { length product.now ≡ 64 }
     ensures { result ≡ slot_rule n product.now }
 {
-    let count = word_length(product);
-    let mut i = 0;
-    while i < count {
-        let checked = check_that(slot_of(product[i]) < n, Reason::SlotMissing, i);
+    for (i, letter) in product[..word_length(product)].iter().enumerate() {
+        let checked = check_that(slot_of(*letter) < n, Reason::SlotMissing, i);
         let Ok(()) = checked else {
             return checked;
         };
-        i += 1;
     }
     Ok(())
 }

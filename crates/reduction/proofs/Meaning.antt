@@ -9,7 +9,7 @@ use Rattle.std.specs.Prelude.{None, Option, Some}
 use mathlib.Core.Path.{◌∙◌, ◌≡◌, ap, refl, sym}
 use native.Mathlib.Decide.{dec_lt}
 use native.Mathlib.Omega.{arith}
-use lib.ListN.{length, length-map, take}
+use lib.ListN.{length, take}
 use lib.Seq.{length-take-le}
 use Rattle.words.specs.Alphabet.{bytes}
 use Rattle.words.specs.Buffers.{written}
@@ -32,8 +32,8 @@ use Rattle.records.specs.declared.answers.Verdict.{Verdict}
 use Rattle.records.specs.declared.answers.Verdict.TheVariants.{Done}
 use Rattle.records.proofs.Chains.{answered, fine_first, fine_next, must_fine}
 use Rattle.slots.specs.Refusals.{system_room, system_rules}
-use Rattle.slots.specs.Systems.{bytes_of, freely_reduced_words, slots, system_of}
-use Rattle.slots.proofs.RoundTrip.{AllShort, LetterWords, bytes_of-length, bytes_of-slots, reduced_letters, reduced-short, system_back, system-length, system_passes}
+use Rattle.slots.specs.Systems.{AllShort, bytes_of, freely_reduced_words, slots, system_of}
+use Rattle.slots.proofs.RoundTrip.{LetterWords, bytes_of-length, bytes_of-slots, reduced_letters, reduced-short, system_back, system_passes, words-length}
 use Rattle.slots.proofs.Systems.{loaded_freely_reduced, room_fits, system-few}
 use Rattle.moves.specs.Logs.{log_of, log_rules, move_size}
 use Rattle.moves.proofs.LogBack.{AllBetween, log_of-length, log_of-moves, log_of_passes, valid_between}
@@ -59,11 +59,6 @@ stopped_none S e = none_yes (next bytes S) e
 
 pub none-stopped : (S : List (List ℕ)) → next bytes S ≡ None → stopped S ≡ true
 none-stopped S e = ap is_none e
-
--- one word for each slot
-pub words-length : (s : List ℕ) → length (freely_reduced_words s) ≡ slots s
-unfolding freely_reduced_words
-words-length s = length-map (system_of s) (freely_reduce bytes) ∙ system-length s
 
 -- test: a call that is done has passed its tests
 tested_fine : (c : Checked) (S : List (List ℕ)) → (tested_of c S).verdict ≡ Done → c ≡ Ok tt

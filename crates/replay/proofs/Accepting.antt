@@ -11,8 +11,7 @@ use Rattle.systems.specs.declared.Move.{Move}
 use Rattle.systems.proofs.Undoing.{made-changed}
 use Rattle.records.proofs.Chains.{each_passes, must_pass}
 use Rattle.slots.specs.Refusals.{system_rules}
-use Rattle.slots.specs.Systems.{freely_reduced_words, slots}
-use Rattle.slots.proofs.RoundTrip.{AllShort}
+use Rattle.slots.specs.Systems.{AllShort, freely_reduced_words, slots}
 use Rattle.slots.proofs.Systems.{room_fits}
 use Rattle.moves.specs.Logs.{log_rules, move_at, move_size, moves_in}
 use Rattle.moves.proofs.Logging.{passed_move, read_changed}

@@ -2,5 +2,6 @@
 pub mod Holding
 pub mod Systems
 pub mod RoundTrip
+pub mod Arrays
 pub mod Factors
 pub mod Alike

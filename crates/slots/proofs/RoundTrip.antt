@@ -5,9 +5,10 @@ use mathlib.Core.List.{List, [], ◌++◌, ◌∷◌}
 use mathlib.Core.Path.{◌∙◌, ◌≡◌, ap, refl, sym}
 use native.Mathlib.Decide.{dec_lt}
 use native.Mathlib.Omega.{arith}
-use lib.ListN.{get_or-eq_default, drop, length, length-append, take}
+use lib.ListN.{get_or-eq_default, drop, length, length-append, length-map, take}
 use lib.Seq.{drop_at, drop-drop, ext_get_or, take_at}
 use Rattle.words.specs.Alphabet.{bytes}
+use Rattle.words.specs.Words.{freely_reduce}
 use Rattle.words.proofs.Alphabet.{byte_laws}
 use Rattle.words.proofs.Below.{below_at, below_length}
 use Rattle.systems.specs.Products.{word}
@@ -18,13 +19,9 @@ use Rattle.records.specs.Refusals.{each_below}
 use Rattle.records.proofs.Chains.{each_passed, each_passes}
 use Rattle.records.proofs.RoundTrip.{AllLetters, letters_reduce, record_letters, record_passes, word_back, word-short}
 use Rattle.slots.specs.Refusals.{slot_rules, system_rules}
-use Rattle.slots.specs.Systems.{bytes_of, freely_reduced_words, record_at, slots, system_of, word_at}
+use Rattle.slots.specs.Systems.{AllShort, bytes_of, freely_reduced_words, record_at, slots, system_of, word_at}
 use Rattle.slots.proofs.Systems.{record-length, records_passed, system_records}
 use Rattle.std.specs.Prelude.{Ok}
-
--- every word of a system fits a record
-abbrev pub AllShort : List (List ℕ) → Type 0
-AllShort S = (k : ℕ) → length (word bytes S k) ≤ 63
 
 -- a system of words of letters alone
 abbrev pub LetterWords : List (List ℕ) → Type 0
@@ -61,6 +58,11 @@ reduced_letters s e k = rw (reduced-word bytes byte_laws (system_of s) k) (lette
 pub reduced-short : (s : List ℕ) → AllShort (freely_reduced_words s)
 unfolding freely_reduced_words
 reduced-short s = reduced-within bytes byte_laws (system_of s) 63 (system-short s)
+
+-- one word for each slot
+pub words-length : (s : List ℕ) → length (freely_reduced_words s) ≡ slots s
+unfolding freely_reduced_words
+words-length s = length-map (system_of s) (freely_reduce bytes) ∙ system-length s
 
 -- the bytes of a system of words
 pub bytes_of-length : (ws : List (List ℕ)) → AllShort ws → length (bytes_of ws) ≡ length ws * 64

@@ -101,7 +101,7 @@ record-length w h =
     length-append w _ ∙ ap (λ (k : ℕ). length w + k) (length-append (blanks (63 - length w)) _ ∙ ap (λ (k : ℕ). k + 1) (length-replicate (63 - length w) 46))
     ∙ omega arith
 
-bytes_last : (S : List (List ℕ)) (w : List ℕ) → bytes_of (S ++ (w ∷ [])) ≡ bytes_of S ++ record_of w
+pub bytes_last : (S : List (List ℕ)) (w : List ℕ) → bytes_of (S ++ (w ∷ [])) ≡ bytes_of S ++ record_of w
 bytes_last [] w = append-nil (record_of w)
 bytes_last (v ∷ S) w = ap (λ (l : List ℕ). record_of v ++ l) (bytes_last S w) ∙ sym (append_assoc (record_of v) _ _)
 

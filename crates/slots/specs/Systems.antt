@@ -1,8 +1,9 @@
 -- Systems of records, as lists of bytes: the words in their slots, and the bytes that hold given words.
-use Rattle.std.specs.Prelude.{◌*◌, ◌/◌, ℕ, List, [], ◌++◌, ◌∷◌, map, drop, length, take}
+use Rattle.std.specs.Prelude.{◌*◌, ◌/◌, ◌≤◌, ℕ, List, [], ◌++◌, ◌∷◌, map, drop, length, take}
 use Rattle.words.specs.Alphabet.{bytes}
 use Rattle.words.specs.Below.{below}
 use Rattle.words.specs.Words.{freely_reduce}
+use Rattle.systems.specs.Products.{word}
 use Rattle.records.specs.Records.{record_of, word_of}
 
 -- the record in a slot, the slots counted from 0
@@ -29,3 +30,7 @@ bytes_of (w ∷ ws) = record_of w ++ bytes_of ws
 -- the words of a system, each freely reduced
 unfoldable pub freely_reduced_words : List ℕ → List (List ℕ)
 freely_reduced_words s = map (freely_reduce bytes) (system_of s)
+
+-- every word of a system fits a record
+abbrev pub AllShort : List (List ℕ) → Type 0
+AllShort S = (k : ℕ) → length (word bytes S k) ≤ 63

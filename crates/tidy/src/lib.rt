@@ -5,9 +5,8 @@ ghost use Rattle.std.specs.Prelude.{◌≡◌};
 ghost use Rattle.tidy.specs.Tidy.{tidy_answer, tidy_buffer};
 
 use records::answers::Answer;
-use records::record::RECORD;
 use slots::checks::check_system_room;
-use slots::held::{load, store};
+use slots::system::System;
 
 // Writes each record of a system, freely reduced, into the same slot of the lent buffer.
 pub fn tidy(system: &[u8], words: &mut [u8]) -> Answer
@@ -18,9 +17,7 @@ pub fn tidy(system: &[u8], words: &mut [u8]) -> Answer
     let Ok(()) = checked else {
         return Answer::from(checked);
     };
-    let mut letters = [0u8; 1024];
-    let mut lengths = [0usize; 16];
-    load(system, &mut letters, &mut lengths);
-    store(&letters, &lengths, system.len() / RECORD, words);
+    let tidied = System::load(system);
+    tidied.store(words);
     Answer::from(checked)
 }

@@ -45,3 +45,14 @@ module _ (w s : List ℕ) (i n : ℕ) (here : take n s ≡ freely_reduce bytes (
   stack_more t m inside e =
       e ∙ ap (λ (l : List ℕ). freely_reduce bytes (l ++ (get_or w i 0 ∷ []))) here ∙ sym (freely_reduce_left bytes byte_laws (take i w) (get_or w i 0 ∷ []))
       ∙ ap (freely_reduce bytes) (sym (ap (λ (k : ℕ). take k w) (add-one i) ∙ take-suc w i 0 inside))
+
+-- the same for a word that stands alone
+module _ (w v : List ℕ) (i : ℕ) (here : v ≡ freely_reduce bytes (take i w)) where
+  pub read_freely_reduced : freely_reduce bytes v ≡ v
+  read_freely_reduced = rw here (freely_reduce_twice bytes byte_laws (take i w))
+
+  pub read_more : (t : List ℕ) → i < length w → t ≡ freely_reduce bytes (v ++ (get_or w i 0 ∷ [])) → t ≡ freely_reduce bytes (take (i + 1) w)
+  read_more t inside e =
+      e ∙ ap (λ (l : List ℕ). freely_reduce bytes (l ++ (get_or w i 0 ∷ []))) here
+      ∙ sym (freely_reduce_left bytes byte_laws (take i w) (get_or w i 0 ∷ []))
+      ∙ ap (freely_reduce bytes) (sym (ap (λ (k : ℕ). take k w) (add-one i) ∙ take-suc w i 0 inside))

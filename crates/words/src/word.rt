@@ -103,7 +103,8 @@ impl<const ROOM: usize> Word<ROOM> {
     // Puts a word of another buffer in place of this one. All ROOM bytes are copied where the other has them, so that the copy has one length.
     pub fn copy_from<const FROM: usize>(&mut self, word: &Word<FROM>)
         requires { length word.now ≤ ROOM }
-        ensures { self.new ≡ word.now }
+        ensures letters { self.new ≡ word.now }
+        ensures freely { freely_reduce bytes self.new ≡ self.new }
     {
         if FROM < ROOM {
             copy(&word.letters, &mut self.letters);

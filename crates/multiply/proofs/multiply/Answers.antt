@@ -1,14 +1,14 @@
 -- `multiply::multiply` meets its contract.
 use borrow.Author.Rules.{rules}
 use Rattle.records.proofs.Chains.{answered, changed, unchanged}
-use Rattle.multiply.proofs.Calls.{passed_product, passed_room, passed_short, passed_size, passed_slots, piece_short, rules_failed, rules_told, word-written}
+use Rattle.multiply.proofs.Calls.{passed_product, passed_room, passed_short, passed_size, passed_slots, letters_short, rules_failed, rules_told, word-written}
 use Rattle.multiply.proofs.multiply.Goals as goal
 
 pub returns-in_default : goal.returns-in_default
 returns-in_default c = search (answered, unchanged, rules_failed, rules)
 
-pub product_word-size-requires : goal.product_word-size-requires
-product_word-size-requires c = search (passed_size, passed_product, passed_slots, rules)
+pub product_word-result-requires : goal.product_word-result-requires
+product_word-result-requires c = search (passed_size, passed_product, passed_slots, rules)
 
 pub returns-in_default-fitted-clause-answer : goal.returns-in_default-fitted-clause-answer
 returns-in_default-fitted-clause-answer c = search (answered, rules_told, rules)
@@ -17,13 +17,13 @@ pub returns-in_default-fitted-clause-word : goal.returns-in_default-fitted-claus
 returns-in_default-fitted-clause-word c = search (unchanged, rules_told, rules)
 
 pub slice_bounds-write_record-end : goal.slice_bounds-write_record-end
-slice_bounds-write_record-end c = search (passed_short, rules)
+slice_bounds-write_record-end c = search (passed_room, rules)
 
 pub slice_bounds-write_record-end-2 : goal.slice_bounds-write_record-end-2
 slice_bounds-write_record-end-2 c = search (passed_room, rules)
 
 pub write_record-requires-clause-fits : goal.write_record-requires-clause-fits
-write_record-requires-clause-fits c = search (piece_short, rules)
+write_record-requires-clause-fits c = search (letters_short, rules)
 
 pub write_record-requires-clause-room : goal.write_record-requires-clause-room
 write_record-requires-clause-room c = search (passed_room, rules)

@@ -1,11 +1,14 @@
--- `multiply::product_word` meets its contract.
+-- `multiply::product_word` meets its contract. The word is what the letters read so far come to, at most 63 letters for each.
 use borrow.Author.Rules.{rules}
-use Rattle.slots.proofs.Holding.{held_none}
-use Rattle.multiply.proofs.Multiplying.{loaded_word}
+use Rattle.multiply.proofs.Multiplying.{read_all, read_more}
+use Rattle.multiply.proofs.SlotLetters.{slot_inside}
 use Rattle.multiply.proofs.product_word.Goals as goal
 
-pub load-requires : goal.load-requires
-load-requires c = search (held_none, rules)
+pub word-requires : goal.word-requires
+word-requires c = search (slot_inside, rules)
+
+pub loop-letter-preserved : goal.loop-letter-preserved
+loop-letter-preserved c = (search rules, search (read_more, rules))
 
 pub returns : goal.returns
-returns c = search (loaded_word, rules)
+returns c = search (read_all, rules)
