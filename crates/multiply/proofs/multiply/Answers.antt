@@ -7,8 +7,8 @@ use Rattle.multiply.proofs.multiply.Goals as goal
 pub returns-in_default : goal.returns-in_default
 returns-in_default c = search (answered, unchanged, rules_failed, rules)
 
-pub product_word-result-requires : goal.product_word-result-requires
-product_word-result-requires c = search (passed_size, passed_product, passed_slots, rules)
+pub product_word-requires : goal.product_word-requires
+product_word-requires c = search (passed_size, passed_product, passed_slots, rules)
 
 pub returns-in_default-fitted-clause-answer : goal.returns-in_default-fitted-clause-answer
 returns-in_default-fitted-clause-answer c = search (answered, rules_told, rules)
