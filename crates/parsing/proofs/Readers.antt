@@ -12,10 +12,9 @@ use mir.Syntax.{w64}
 use mir.Val.{Fits}
 use Rattle.syntax.specs.Trees.{Power, Product, Proper, ProperPower, bracket, group, letter, nothing, spelled, spelled_power}
 use Rattle.syntax.specs.Within.{NestsWithin, PowerWithin, PowersWithin}
-use Rattle.powers.specs.Bounded.{Sound, commute_of, held, join_of, word_in}
+use Rattle.powers.specs.Bounded.{commute_of, join_of}
 use Rattle.scanning.specs.Exponents.{exponent_of}
 use Rattle.parsing.specs.Reading.{FactorReads, PowerReads, ProductReads, ReadAll, ReadFirst, Readable, StartsWith, Stops, first_size, first_word, read_after, starts_factor}
-use Rattle.powers.specs.declared.Word.{Word}
 use Rattle.parsing.specs.declared.Reading.{Reading}
 use Rattle.systems.proofs.Logic.{true_not_false}
 use Rattle.words.proofs.Buffers.{rest_part}
@@ -154,30 +153,27 @@ starts_none room b s (bracket u v p t) rest h e =
     absurd (true_not_false _ refl (rw z at e))
 
 -- what is left of a product: the tree of it, and that the whole is the answer from here on
-pub record Onward (room : ℕ) (text : List ℕ) (word : Word) (at : ℕ) (t : Product) (rest : List ℕ) : Type 0 where
+pub record Onward (room : ℕ) (text : List ℕ) (word : Option (List ℕ)) (at : ℕ) (t : Product) (rest : List ℕ) : Type 0 where
   pub tree : Product
   pub starts : StartsWith room (drop at text) tree rest
   pub used : length (spelled t) ≡ at + length (spelled tree)
-  pub same : read_after (word_in word) tree ≡ read_after (Some []) t
+  pub same : read_after word tree ≡ read_after (Some []) t
 
-pub record ProductKept (room : ℕ) (text : List ℕ) (word : Word) (at : ℕ) : Type 0 where
+pub record ProductKept (room : ℕ) (text : List ℕ) (word : Option (List ℕ)) (at : ℕ) : Type 0 where
   pub inside : at ≤ length text
-  pub sound : Sound word
   pub readable : Readable room text
   pub onward : (t : Product) (rest : List ℕ) → StartsWith room text t rest → Onward room text word at t rest
 
-pub kept_first : (room : ℕ) (text letters : List ℕ) → Readable room text → length letters ≡ 128 → ProductKept room text (held letters 0) 0
-unfolding word_in
-kept_first room text letters r e =
+pub kept_first : (room : ℕ) (text : List ℕ) {word : Option (List ℕ)} → Readable room text → word ≡ Some [] → ProductKept room text word 0
+kept_first room text r e =
     record {
       inside = omega arith;
-      sound = record { whole = e; freely = λ h. refl };
       readable = r;
-      onward = λ t rest h. record { tree = t; starts = h; used = omega arith; same = refl };
+      onward = λ t rest h. record { tree = t; starts = h; used = omega arith; same = rw e refl };
     }
 
 -- a place of the text, and the byte there
-module _ (room : ℕ) (text : List ℕ) (word : Word) (at : ℕ) (kept : ProductKept room text word at) (inside : at < length text) where
+module _ (room : ℕ) (text : List ℕ) (word : Option (List ℕ)) (at : ℕ) (kept : ProductKept room text word at) (inside : at < length text) where
   onward_here : (t : Product) (rest : List ℕ) → StartsWith room text t rest → (o : Onward room text word at t rest) × StartsWith room (get_or text at 0 ∷ drop (suc at) text) o.tree rest
   onward_here t rest h =
       let o = kept.onward t rest h in
@@ -236,12 +232,10 @@ module _ (room : ℕ) (text : List ℕ) (word : Word) (at : ℕ) (kept : Product
       pub factor_less : length text - (at + next.used) < length text - at
       factor_less = omega (arith, factor_inside, factor_some)
 
-      pub kept_again : (longer : Word) → Sound longer → word_in longer ≡ join_of (word_in word) (word_in next.word)
-          → ProductKept room text longer (at + next.used)
-      kept_again longer z w =
+      pub kept_again : (longer : Option (List ℕ)) → longer ≡ join_of word next.word → ProductKept room text longer (at + next.used)
+      kept_again longer w =
           record {
             inside = factor_inside;
-            sound = z;
             readable = kept.readable;
             onward = λ t rest h.
                 let o = kept.onward t rest h in
@@ -250,12 +244,12 @@ module _ (room : ℕ) (text : List ℕ) (word : Word) (at : ℕ) (kept : Product
                   tree = after o.tree;
                   starts = rw (f.used, ← drop-drop (first_size o.tree) at text) (starts-after room (drop at text) o.tree rest o.starts);
                   used = omega (arith, o.used, f.used, size-after o.tree);
-                  same = rw (w, f.word) (sym (word_after (word_in word) o.tree (full t rest h)) ∙ o.same);
+                  same = rw (w, f.word) (sym (word_after word o.tree (full t rest h)) ∙ o.same);
                 };
           }
 
 -- the end of the text
-pub read_end : (room : ℕ) (text : List ℕ) (word : Word) (at : ℕ) → ProductKept room text word at → length text ≤ at
+pub read_end : (room : ℕ) (text : List ℕ) (word : Option (List ℕ)) (at : ℕ) → ProductKept room text word at → length text ≤ at
     → ProductReads room text (record { word = word; used = at })
 read_end room text word at kept past t rest h =
     let o = kept.onward t rest h in
@@ -422,7 +416,7 @@ module _ (room : ℕ) (text : List ℕ) (full : 0 < length text) (begins : start
     pub letter_power : Readable room text → IfSome (exponent_of (drop 1 text)) (λ e. e.number ≤ 63)
     letter_power r = number_at (letter_here text full begins room r.tree r.rest r.starts no-group no-bracket).power_at
 
-    pub read_letter : (word : Word) (r : Reading) → word_in word ≡ Some (get_or text 0 0 ∷ []) → PowerReads text 1 word r → FactorReads room text r
+    pub read_letter : (word : Option (List ℕ)) (r : Reading) → word ≡ Some (get_or text 0 0 ∷ []) → PowerReads text 1 word r → FactorReads room text r
     read_letter word r w q t rest h =
         let l = letter_here text full begins room t rest h no-group no-bracket in
         let a = l.power_at in
@@ -514,7 +508,7 @@ module _ (room : ℕ) (text : List ℕ) (opens : get_or text 0 0 ≡ 91) where
           let g = bracket_at r.tree r.rest r.starts in
           rw ((one_read r.tree r.rest r.starts).used, (two_read r.tree r.rest r.starts).used) (number_at g.power_at)
 
-      bracket_read : (word : Word) (r : Reading) → word_in word ≡ commute_of (word_in u.word) (word_in v.word)
+      bracket_read : (word : Option (List ℕ)) (r : Reading) → word ≡ commute_of u.word v.word
           → PowerReads text (u.used + 2 + v.used + 1) word r → FactorReads room text r
       bracket_read word r w q t rest h =
           let g = bracket_at t rest h in
@@ -526,8 +520,8 @@ module _ (room : ℕ) (text : List ℕ) (opens : get_or text 0 0 ≡ 91) where
             word = q.word ∙ rw (e, w, a.word, b.word) (raise_for g.power (commute_of (read_after (Some []) g.one) (read_after (Some []) g.two)));
           })
 
-pub read_bracket : (room : ℕ) (text : List ℕ) (u v r : Reading) (word : Word) → PowerReads text (u.used + 2 + v.used + 1) word r
-    → word_in word ≡ commute_of (word_in u.word) (word_in v.word) → ProductReads (room - 1) (take (length text - 1) (drop 1 text)) u
+pub read_bracket : (room : ℕ) (text : List ℕ) (u v r : Reading) (word : Option (List ℕ)) → PowerReads text (u.used + 2 + v.used + 1) word r
+    → word ≡ commute_of u.word v.word → ProductReads (room - 1) (take (length text - 1) (drop 1 text)) u
     → ProductReads (room - 1) (take (length text - (u.used + 2)) (drop (u.used + 2) text)) v → get_or text 0 0 ≡ 91
     → FactorReads room text r
 read_bracket room text u v r word q w a b opens = bracket_read room text opens u a v b word r w q

@@ -8,8 +8,7 @@ use Rattle.syntax.specs.Limits.{bracket_size, group_size}
 use Rattle.syntax.specs.Within.{NestsWithin, PowersWithin}
 use Rattle.scanning.specs.Exponents.{exponent_of, exponent_size}
 use Rattle.scanning.specs.declared.exponent.Exponent.{Exponent}
-use Rattle.powers.specs.Bounded.{commute_of, join_of, raise_of, word_in}
-use Rattle.powers.specs.declared.Word.{Word}
+use Rattle.powers.specs.Bounded.{commute_of, join_of, raise_of}
 use Rattle.parsing.specs.declared.Reading.{Reading}
 
 -- a factor's word with its power
@@ -49,7 +48,7 @@ pub record Readable (room : ℕ) (text : List ℕ) : Type 0 where
 -- a whole product was read
 pub record ReadAll (t : Product) (r : Reading) : Type 0 where
   pub used : r.used ≡ length (spelled t)
-  pub word : word_in r.word ≡ read_after (Some []) t
+  pub word : r.word ≡ read_after (Some []) t
 
 abbrev pub ProductReads : ℕ → List ℕ → Reading → Type 0
 ProductReads room text r = (t : Product) (rest : List ℕ) → StartsWith room text t rest → ReadAll t r
@@ -69,7 +68,7 @@ first_word (bracket u v p t) = powered_of p (commute_of (read_after (Some []) u)
 
 pub record ReadFirst (t : Product) (r : Reading) : Type 0 where
   pub used : r.used ≡ first_size t
-  pub word : word_in r.word ≡ first_word t
+  pub word : r.word ≡ first_word t
 
 abbrev pub FactorReads : ℕ → List ℕ → Reading → Type 0
 FactorReads room text r = (t : Product) (rest : List ℕ) → StartsWith room text t rest → ReadFirst t r
@@ -80,6 +79,6 @@ raised_by None w = w
 raised_by (Some e) w = raise_of e.minus e.number w
 
 -- a word with the power at a place of a text
-pub record PowerReads (text : List ℕ) (at : ℕ) (w : Word) (r : Reading) : Type 0 where
+pub record PowerReads (text : List ℕ) (at : ℕ) (w : Option (List ℕ)) (r : Reading) : Type 0 where
   pub used : r.used ≡ at + exponent_size (exponent_of (drop at text))
-  pub word : word_in r.word ≡ raised_by (exponent_of (drop at text)) (word_in w)
+  pub word : r.word ≡ raised_by (exponent_of (drop at text)) w

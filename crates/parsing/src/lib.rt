@@ -3,18 +3,18 @@
 
 ghost use Rattle.std.specs.Prelude.{◌<◌, ◌≤◌, true, ◌≡◌, IfSome, drop, get_or, length};
 ghost use Rattle.scanning.specs.Exponents.{exponent_of};
-ghost use Rattle.powers.specs.Bounded.{Sound};
 ghost use Rattle.parsing.specs.Reading.{FactorReads, PowerReads, ProductReads, Readable, starts_factor};
 
-use powers::{Word, append, commute, raise, single};
+use powers::{MOST, append, commute, raise, single};
 use records::record::is_letter;
 use scanning::exponent::read_exponent;
 use syntax::{BRACKET_OPENS, GROUP_OPENS};
+use words::word::Word;
 
-// A word read, and how many bytes were read for it.
+// A word read, none where one is too long, and how many bytes were read for it.
 #[derive(Drop)]
 pub struct Reading {
-    pub word: Word,
+    pub word: Option<Word<MOST>>,
     pub used: usize,
 }
 
@@ -22,18 +22,15 @@ pub struct Reading {
 #[cycle(reader)]
 pub fn product(text: &[u8], room: usize) -> Reading
     requires { Readable room text.now }
-    ensures sound { Sound result.word }
-    ensures reads { ProductReads room text.now result }
+    ensures { ProductReads room text.now result }
 {
-    let mut letters = [0u8; 128];
-    let mut length = 0;
+    let mut word = Some(Word::<MOST>::new());
     let mut at = 0;
     while at < text.len() && starts(text[at]) {
         let next = factor(&text[at..], room);
-        length = append(&mut letters, length, next.word);
+        word = append(word, next.word);
         at += next.used;
     }
-    let word = Word { letters, length };
     Reading { word, used: at }
 }
 
@@ -42,8 +39,7 @@ pub fn product(text: &[u8], room: usize) -> Reading
 fn factor(text: &[u8], room: usize) -> Reading
     requires readable { Readable room text.now }
     requires starts { (0 < length text.now) × (starts_factor (get_or text.now 0 0) ≡ true) }
-    ensures sound { Sound result.word }
-    ensures reads { FactorReads room text.now result }
+    ensures { FactorReads room text.now result }
 {
     match text[0] {
         BRACKET_OPENS => bracket(text, room),
@@ -61,8 +57,7 @@ fn factor(text: &[u8], room: usize) -> Reading
 fn bracket(text: &[u8], room: usize) -> Reading
     requires readable { Readable room text.now }
     requires opens { get_or text.now 0 0 ≡ 91 }
-    ensures sound { Sound result.word }
-    ensures reads { FactorReads room text.now result }
+    ensures { FactorReads room text.now result }
 {
     let first = product(&text[1..], room - 1);
     let middle = first.used + 2;
@@ -80,11 +75,9 @@ fn starts(b: u8) -> bool
 }
 
 // A factor's word with the power that stands at a place of a text, if one does.
-fn powered(word: Word, text: &[u8], at: usize) -> Reading
-    requires sound { Sound word }
-    requires within { (at ≤ length text.now) × IfSome (exponent_of (drop at text.now)) (λ power. power.number ≤ 63) }
-    ensures sound { Sound result.word }
-    ensures reads { PowerReads text.now at word result }
+fn powered(word: Option<Word<MOST>>, text: &[u8], at: usize) -> Reading
+    requires { (at ≤ length text.now) × IfSome (exponent_of (drop at text.now)) (λ power. power.number ≤ 63) }
+    ensures { PowerReads text.now at word result }
 {
     let Some(power) = read_exponent(&text[at..]) else {
         return Reading { word, used: at };

@@ -8,7 +8,7 @@ ghost use Rattle.text.specs.ReadBack.{ReadBack};
 ghost use Rattle.text.specs.Write.{write_answer, write_buffer, write_rules, writing_of};
 
 use parsing::product;
-use records::answers::{Answer, Refusal, Verdict, check_that};
+use records::answers::{Answer, Refusal, Verdict, refuse};
 use records::record::{RECORD, check_target, word_length, write_record};
 use records::refusals::Reason;
 use scanning::checks::{DEEPEST, check_text};
@@ -45,14 +45,11 @@ fn read_checked(text: &[u8], word: &mut [u8]) -> Result<(), Refusal>
         return checked;
     };
     let found = product(text, DEEPEST);
-    let letters = found.word.letters;
-    let count = found.word.length;
-    let fitted = check_that(count <= 63, Reason::WordTooLong, 0);
-    let Ok(()) = fitted else {
-        return fitted;
+    let Some(reduced) = found.word else {
+        return refuse(Reason::WordTooLong, 0);
     };
-    write_record(&letters[0..count], &mut word[0..64]);
-    fitted
+    write_record(reduced.letters(), &mut word[0..64]);
+    checked
 }
 
 // Refusals 16, 17, 18 and 10.

@@ -3,6 +3,7 @@
 use borrow.Author.Rules.{rules}
 use Rattle.parsing.proofs.Readers.{bracket-before_end, bracket-middle, bracket-room, bracket_calls, bracket_calls_again, bracket_end, bracket_power, bracket_readable, bracket_readable_too, factor_calls, factor_full, factor_hands_on, factor_inside, factor_less, factor_readable, factor_starts, group-room, group_end, group_power, group_readable, kept_again, kept_first, letter_power, product_calls, read_all, read_bracket, read_end, read_group, read_letter, size_fits}
 use Rattle.parsing.proofs.+reader.Goals as goal
+use Rattle.parsing.proofs.+reader.Goals.{product-else-loop-at-test, product-then-loop-at-test+else-starts}
 
 pub bracket-overflow_sub-room : goal.bracket-overflow_sub-room
 bracket-overflow_sub-room t c = search (bracket-room, rules)
@@ -31,11 +32,11 @@ bracket-overflow_add-end t c = search (size_fits, bracket-before_end, rules)
 pub bracket-overflow_add-end-2 : goal.bracket-overflow_add-end-2
 bracket-overflow_add-end-2 t c = search (size_fits, bracket_end, rules)
 
-pub bracket-powered-requires-clause-within : goal.bracket-powered-requires-clause-within
-bracket-powered-requires-clause-within t c = search (bracket_end, bracket_power, rules)
+pub bracket-powered-requires : goal.bracket-powered-requires
+bracket-powered-requires t c = search (bracket_end, bracket_power, rules)
 
-pub bracket-returns-clause-reads : goal.bracket-returns-clause-reads
-bracket-returns-clause-reads t c = search (read_bracket, c.requires.opens, rules)
+pub bracket-returns : goal.bracket-returns
+bracket-returns t c = search (read_bracket, c.requires.opens, rules)
 
 pub factor-bracket-requires : goal.factor-bracket-requires
 factor-bracket-requires t c = (search (factor_hands_on, rules), search rules)
@@ -49,23 +50,20 @@ factor-product-inner-requires t c = (search (factor_calls, rules), search (group
 pub factor-overflow_add-end : goal.factor-overflow_add-end
 factor-overflow_add-end t c = search (size_fits, group_end, rules)
 
-pub factor-powered-requires-clause-within : goal.factor-powered-requires-clause-within
-factor-powered-requires-clause-within t c = search (group_end, group_power, rules)
+pub factor-powered-requires : goal.factor-powered-requires
+factor-powered-requires t c = search (group_end, group_power, rules)
 
-pub factor-returns-in-40-clause-reads : goal.factor-returns-in-40-clause-reads
-factor-returns-in-40-clause-reads t c = search (read_group, rules)
+pub factor-returns-in-40 : goal.factor-returns-in-40
+factor-returns-in-40 t c = search (read_group, rules)
 
-pub factor-powered-requires-in_default-clause-within : goal.factor-powered-requires-in_default-clause-within
-factor-powered-requires-in_default-clause-within t c = search (letter_power, rules)
+pub factor-powered-requires-in_default : goal.factor-powered-requires-in_default
+factor-powered-requires-in_default t c = search (letter_power, rules)
 
-pub factor-returns-in_default-clause-reads : goal.factor-returns-in_default-clause-reads
-factor-returns-in_default-clause-reads t c = search (read_letter, rules)
+pub factor-returns-in_default : goal.factor-returns-in_default
+factor-returns-in_default t c = search (read_letter, rules)
 
 pub product-loop-at-init : goal.product-loop-at-init
 product-loop-at-init t c = search (kept_first, rules)
-
-pub product-returns-else-starts-clause-reads : goal.product-returns-else-starts-clause-reads
-product-returns-else-starts-clause-reads t c = search (read_all, rules)
 
 pub product-factor-next-requires : goal.product-factor-next-requires
 product-factor-next-requires t c = (search (product_calls, rules), search (factor_readable, factor_full, factor_starts, rules))
@@ -79,5 +77,8 @@ product-loop-at-smaller t c = search (factor_less, rules)
 pub product-loop-at-preserved : goal.product-loop-at-preserved
 product-loop-at-preserved t c = search (kept_again, rules)
 
-pub product-returns-after-loop-at-clause-reads : goal.product-returns-after-loop-at-clause-reads
-product-returns-after-loop-at-clause-reads t c = search (read_end, rules)
+pub product-returns : goal.product-returns
+product-returns t c = elim c.loop-at-test.branch [
+  | product-then-loop-at-test+else-starts w ↦ search (read_all, rules)
+  | product-else-loop-at-test w ↦ search (read_end, rules)
+]

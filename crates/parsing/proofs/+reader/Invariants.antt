@@ -1,5 +1,4 @@
 use Rattle.std.proofs.Common.{length, ◌+◌, ◌-◌, ◌*◌}
-use Rattle.powers.specs.Bounded.{held}
 use Rattle.parsing.proofs.Readers.{ProductKept}
 use Rattle.parsing.proofs.+reader.Given as goal
 
@@ -13,7 +12,7 @@ abbrev pub decreases-product : goal.decreases-product
 decreases-product l = length l.text.now * 3 + 2
 
 abbrev pub invariant-product-loop-at : goal.invariant-product-loop-at
-invariant-product-loop-at l = ProductKept l.room l.text (held l.letters l.length) l.at
+invariant-product-loop-at l = ProductKept l.room l.text l.word l.at
 
 abbrev pub decreases-product-loop-at : goal.decreases-product-loop-at
 decreases-product-loop-at l = length l.text - l.at
