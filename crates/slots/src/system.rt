@@ -61,7 +61,7 @@ impl System {
         ensures { self.new ≡ self.old ++ freely_reduce bytes (word_of source.now) ∷ [] }
     {
         let word = &mut self.words[self.count];
-        *word = read_word(source);
+        read_word(source, word);
         self.count += 1;
     }
 
@@ -108,16 +108,15 @@ impl System {
     }
 }
 
-// The word in a record, freely reduced.
-fn read_word(source: &[u8]) -> Word<64>
+// Puts the word of a record, freely reduced, in place of another.
+fn read_word(source: &[u8], word: &mut Word<64>)
     requires { length source.now ≡ 64 }
-    ensures word { result ≡ freely_reduce bytes (word_of source.now) }
-    ensures short { length result ≤ 63 }
-    ensures freely { freely_reduce bytes result ≡ result }
+    ensures word { word.new ≡ freely_reduce bytes (word_of source.now) }
+    ensures short { length word.new ≤ 63 }
+    ensures freely { freely_reduce bytes word.new ≡ word.new }
 {
-    let mut word = Word::new();
+    word.set(b"");
     for letter in &source[..word_length(source)] {
         word.push(*letter);
     }
-    word
 }
