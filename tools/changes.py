@@ -59,7 +59,9 @@ def definitions(commit):
         for line in git('show', f'{commit}:{name}').split('\n'):
             if line.startswith(('use ', 'pub use ', 'pub mod ')) or not line.strip() or line.strip().startswith('--'):
                 continue
-            head = re.match(r' *(?:(?:abbrev|unfoldable|data|record) |pub )+(\S+)', line)
+            if line.startswith('infix'):
+                continue
+            head = re.match(r' *(?:(?:abbrev|unfoldable|data|record) |pub )+([^\s{]+)', line)
             field = re.match(r' +pub \S+ :', line) and not re.match(r' *(abbrev|unfoldable|data|record)', line)
             if head and not field:
                 current = (crate, head.group(1))
