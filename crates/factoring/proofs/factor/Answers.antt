@@ -27,8 +27,7 @@ factor_byte-requires c = search (lead_slot, rules)
 
 pub loop-size-preserved : goal.loop-size-preserved
 loop-size-preserved c =
-    let (short, most, sized, long, here) = c.loop-size.invariant in
-    (
+    let (short, most, sized, long, here) = c.loop-size.invariant in (
       search rules,
       search rules,
       search rules,
