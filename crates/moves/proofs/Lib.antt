@@ -1,4 +1,3 @@
 -- Laws that the proofs of several functions cite.
-pub mod Making
 pub mod Logging
 pub mod LogBack

@@ -1,126 +1,68 @@
--- Log records: their tests, one read and one written. A log that passes its tests holds moves between slots of the system.
-use Prim.Native.Nat.{◌%◌, ◌*◌, ◌+◌, ◌-◌, ◌/◌, ◌<◌, ◌≤◌, ℕ}
-use mathlib.Core.Bool.{Bool, ◌&&◌, false, not, true}
-use mathlib.Core.List.{List, [], ◌++◌, ◌∷◌, append_assoc}
-use mathlib.Core.Path.{◌∙◌, ◌≡◌}
-use native.Mathlib.Numerals.{add-one, add-three, add-two}
+-- A log as records of 4 bytes: each is tested and read as at its own place in the log. And what a log that passes its tests tells of them.
+use Prim.Native.Nat.{◌%◌, ◌*◌, ◌+◌, ◌-◌, ◌/◌, ◌<◌, suc, zero, ℕ}
+use mathlib.Core.Bool.{◌&&◌, Bool, false, not, true}
+use mathlib.Core.List.{List}
+use mathlib.Core.Path.{◌∙◌, ◌≡◌, ap, ap₂, refl}
+use native.Mathlib.Nat.{add-zero}
 use native.Mathlib.Omega.{arith}
 use lib.Dec.{eqb, leb, ltb}
-use lib.ListN.{drop, get_or, length, set, take}
-use lib.Seq.{sets-eq}
-use borrow.Author.Tests.{eq-eqb, eqb-false, le-leb, leb-true, lt-leb, ltb-true, ne_eqb, not-true}
-use Rattle.systems.specs.declared.Form.{Form}
+use lib.ListN.{drop, get_or, length, take}
+use lib.Seq.{drop-drop, get_or-drop, get_or-take}
+use borrow.Author.Tests.{eq-eqb, ltb-true}
+use Rattle.std.specs.Prelude.{None, Ok, Option, Some, cond, is_some}
+use Rattle.std.specs.Simd.{first_chunks}
 use Rattle.systems.specs.declared.Move.{Move}
-use Rattle.systems.specs.Moves.{form_digit}
-use Rattle.systems.specs.Rules.{form_at}
-use Rattle.systems.proofs.Logic.{all_four, and_left, and_right}
-use Rattle.records.specs.Refusals.{each_below, must}
-use Rattle.records.proofs.Chains.{each_passed, fine_next, must_fine}
-use Rattle.moves.specs.Logs.{is_move, log_record, log_rules, move_at, move_rule, move_size, names_slot}
+use Rattle.systems.proofs.Logic.{all_four}
+use Rattle.records.specs.Refusals.{Checked, each_below, must}
 use Rattle.records.specs.declared.refusals.Reason.TheVariants.{LogRecordMalformed, LogUneven}
-use Rattle.std.specs.Prelude.{Ok}
+use Rattle.records.proofs.Chains.{each_passed, fine_next, must_fine}
+use Rattle.moves.specs.Logs.{is_move, log_rules, move_at, move_rule, move_size, names_slot, read_move}
+use Rattle.std.proofs.lemmas.Bool.{and_parts}
 
--- a byte names a slot or not, by where it stands
-module _ (n b : ℕ) where
-  pub slot-below : b < 97 → false ≡ names_slot n b
-  slot-below h = rw (lt-leb 97 b h)
+-- one record of a log that is cut into its records
+record_at : (k j : ℕ) (log d : List ℕ) → j < k → get_or (first_chunks move_size k log) j d ≡ take move_size (drop (j * move_size) log)
+record_at zero j log d h = absurd (omega arith)
+record_at (suc k) zero log d h = refl
+record_at (suc k) (suc j) log d h =
+    let place : 4 + j * move_size ≡ suc j * move_size = omega arith in
+    record_at k j (drop 4 log) d (omega arith) ∙ ap (take 4) (drop-drop (j * move_size) 4 log ∙ ap (λ (i : ℕ). drop i log) place)
 
-  pub slot_above : {k : ℕ} → 97 ≤ b → k ≡ b - 97 → ltb k n ≡ names_slot n b
-  slot_above l e = rw (le-leb 97 b l, e)
+-- the record in a place of the log, by itself
+module _ (log : List ℕ) (j : ℕ) where
+  byte_at : (i : ℕ) → i < 4 → get_or (take move_size (drop (j * move_size) log)) i 0 ≡ get_or log (j * move_size + i) 0
+  byte_at i h = get_or-take 4 (drop (j * move_size) log) i 0 h ∙ get_or-drop (j * move_size) log i 0
 
--- the tests on a log record, in their order
-module _ (n : ℕ) (log : List ℕ) (j : ℕ) where
-  pub move_no_slot : names_slot n (get_or log (j * move_size) 0) ≡ false → false ≡ is_move n log j
-  move_no_slot h = rw h
+  first_at : get_or (take move_size (drop (j * move_size) log)) 0 0 ≡ get_or log (j * move_size) 0
+  first_at = byte_at 0 (omega arith) ∙ ap (λ (i : ℕ). get_or log i 0) (add-zero (j * move_size))
 
-  module _ (changed : names_slot n (get_or log (j * move_size) 0) ≡ true) where
-    pub move_low : get_or log (j * move_size + 1) 0 < 49 → false ≡ is_move n log j
-    move_low h = rw (changed, lt-leb _ _ h)
+  moves_at : (n : ℕ) → is_move n (take move_size (drop (j * move_size) log)) 0 ≡ is_move n log j
+  moves_at n = rw (first_at, byte_at 1 (omega arith), byte_at 2 (omega arith), byte_at 3 (omega arith)) refl
 
-    module _ (low : 49 ≤ get_or log (j * move_size + 1) 0) where
-      pub move_high : 52 < get_or log (j * move_size + 1) 0 → false ≡ is_move n log j
-      move_high h = rw (changed, le-leb _ _ low, lt-leb _ _ h)
+  same_at : move_at (take move_size (drop (j * move_size) log)) 0 ≡ move_at log j
+  same_at = rw (first_at, byte_at 1 (omega arith), byte_at 2 (omega arith)) refl
 
-      module _ (high : get_or log (j * move_size + 1) 0 ≤ 52) where
-        pub move_no_other : names_slot n (get_or log (j * move_size + 2) 0) ≡ false → false ≡ is_move n log j
-        move_no_other h = rw (changed, le-leb _ _ low, le-leb _ _ high, h)
+  module _ (n : ℕ) (parts : List (List ℕ)) (d : List ℕ) (cut : parts ≡ first_chunks move_size (length log / move_size) log)
+      (inside : j < length log / move_size) where
+    pub read_at : read_move n (get_or parts j d) ≡ cond (is_move n log j) (Some (move_at log j)) None
+    read_at =
+        ap (read_move n) (ap (λ (l : List (List ℕ)). get_or l j d) cut ∙ record_at (length log / move_size) j log d inside)
+        ∙ ap₂ (λ (b : Bool) (m : Move). cond b (Some m) None) (moves_at n) same_at
 
-        module _ (other : names_slot n (get_or log (j * move_size + 2) 0) ≡ true) where
-          pub move_no_end : (get_or log (j * move_size + 3) 0 ≡ 10 → ⊥) → false ≡ is_move n log j
-          move_no_end h = rw (changed, le-leb _ _ low, le-leb _ _ high, other, ne_eqb _ _ h)
-
-          module _ (ended : get_or log (j * move_size + 3) 0 ≡ 10) where
-            pub move_same : get_or log (j * move_size) 0 ≡ get_or log (j * move_size + 2) 0 → false ≡ is_move n log j
-            move_same h = rw (changed, le-leb _ _ low, le-leb _ _ high, other, eq-eqb _ _ ended, eq-eqb _ _ h)
-
-            pub move_apart : (get_or log (j * move_size) 0 ≡ get_or log (j * move_size + 2) 0 → ⊥) → true ≡ is_move n log j
-            move_apart h = rw (changed, le-leb _ _ low, le-leb _ _ high, other, eq-eqb _ _ ended, ne_eqb _ _ h)
+    -- its test, by whether a move is read in it
+    pub tested_at : {r : Option Move} {t : Bool} {x : Checked} → r ≡ read_move n (get_or parts j d) → t ≡ is_some r
+        → x ≡ must t LogRecordMalformed (j * move_size) → x ≡ move_rule n log j
+    tested_at read some told =
+        told
+        ∙ ap (λ (b : Bool). must b LogRecordMalformed (j * move_size)) (some ∙ ap is_some (read ∙ read_at) ∙ found (is_move n log j) (move_at log j))
+      where
+        found : (b : Bool) (m : Move) → is_some (cond b (Some m) None) ≡ b
+        found true m = refl
+        found false m = refl
 
 -- refusals 7 and 8
 pub log_even : (n : ℕ) (log : List ℕ) → length log % move_size ≡ 0 → each_below (move_rule n log) (length log / move_size) ≡ Ok tt → log_rules n log ≡ Ok tt
 unfolding log_rules
 log_even n log even e = rw (eq-eqb _ _ even, e)
-
--- what the bytes of a move tell
-record Told (n k d i : ℕ) : Type 0 where
-  changed_low : 97 ≤ k
-  changed_inside : k - 97 < n
-  digit_low : 49 ≤ d
-  digit_high : d ≤ 52
-  other_low : 97 ≤ i
-  other_inside : i - 97 < n
-  apart : k ≡ i → ⊥
-
-all_five : (a b c d e : Bool) → a && b && c && d && e ≡ true → (a ≡ true) × (b ≡ true) × (c ≡ true) × (d ≡ true) × (e ≡ true)
-all_five a b c d e h =
-    let four = all_four a b c d (and_left (a && b && c && d) e h) in (four.0, four.1, four.2, four.3, and_right (a && b && c && d) e h)
-
-told : (n k d i e : ℕ) → is_move n (k ∷ d ∷ i ∷ e ∷ []) 0 ≡ true → Told n k d i
-told n k d i e h =
-    let tests = all_five (names_slot n k) (leb 49 d && leb d 52) (names_slot n i) (eqb e 10) (not (eqb k i)) h in
-    record {
-      changed_low = leb-true 97 k (and_left (leb 97 k) (ltb (k - 97) n) tests.0);
-      changed_inside = ltb-true (k - 97) n (and_right (leb 97 k) (ltb (k - 97) n) tests.0);
-      digit_low = leb-true 49 d (and_left (leb 49 d) (leb d 52) tests.1);
-      digit_high = leb-true d 52 (and_right (leb 49 d) (leb d 52) tests.1);
-      other_low = leb-true 97 i (and_left (leb 97 i) (ltb (i - 97) n) tests.2);
-      other_inside = ltb-true (i - 97) n (and_right (leb 97 i) (ltb (i - 97) n) tests.2);
-      apart = eqb-false k i (not-true (eqb k i) tests.4);
-    }
-
--- a log record that is a move, as it is read
-module _ (n : ℕ) (log : List ℕ) (j : ℕ) (valid : is_move n log j ≡ true) where
-  tells : Told n (get_or log (j * move_size) 0) (get_or log (j * move_size + 1) 0) (get_or log (j * move_size + 2) 0)
-  tells = told n _ _ _ (get_or log (j * move_size + 3) 0) valid
-
-  pub changed-named : 97 ≤ get_or log (j * move_size) 0
-  changed-named = tells.changed_low
-
-  pub digit_named : 49 ≤ get_or log (j * move_size + 1) 0
-  digit_named = tells.digit_low
-
-  pub other-named : 97 ≤ get_or log (j * move_size + 2) 0
-  other-named = tells.other_low
-
-  pub read_changed : {k : ℕ} → k ≡ get_or log (j * move_size) 0 - 97 → k < n
-  read_changed e = omega (arith, tells)
-
-  pub read_other : {i : ℕ} → i ≡ get_or log (j * move_size + 2) 0 - 97 → i < n
-  read_other e = omega (arith, tells)
-
-  pub read_apart : {k i : ℕ} → k ≡ get_or log (j * move_size) 0 - 97 → i ≡ get_or log (j * move_size + 2) 0 - 97 → k ≡ i → ⊥
-  read_apart d e h = tells.apart (omega (arith, tells))
-
-pub read_move : {k f i : ℕ} {form : Form} (log : List ℕ) (j : ℕ) → k ≡ get_or log (j * move_size) 0 - 97 → f ≡ get_or log (j * move_size + 1) 0 - 49
-    → form ≡ form_at f → i ≡ get_or log (j * move_size + 2) 0 - 97 → ◌≡◌ {A = Move} (record { changed = k; form = form; other = i }) (move_at log j)
-read_move log j d e told h = rw (d, told, e, h)
-
--- four stores write a log record
-pub move_written : (d : List ℕ) (j : ℕ) (m : Move) {digit : ℕ} → digit ≡ form_digit m.form → j * move_size + move_size ≤ length d
-    → set (set (set (set d (j * move_size) (97 + m.changed)) (j * move_size + 1) digit) (j * move_size + 2) (97 + m.other)) (j * move_size + 3) 10
-    ≡ take (j * move_size) d ++ (log_record m ++ drop (j * move_size + move_size) d)
-move_written d j m e room =
-    rw (e, add-one, add-two, add-three) (sets-eq (log_record m) d (j * move_size) room ∙ append_assoc (take (j * move_size) d) _ _)
 
 -- a log that passes its tests holds moves
 pub passed_move : (n : ℕ) (log : List ℕ) → log_rules n log ≡ Ok tt → (j : ℕ) → j < length log / move_size → is_move n log j ≡ true
@@ -128,3 +70,22 @@ unfolding log_rules
 passed_move n log fine j h =
     let each : each_below (move_rule n log) (length log / move_size) ≡ (Ok tt) = fine_next (must (eqb (length log % move_size) 0) LogUneven 0) _ fine in
     must_fine _ LogRecordMalformed (j * move_size) (each_passed (move_rule n log) (length log / move_size) j each h)
+
+-- and a move changes one of the slots
+pub move_inside : (n : ℕ) (log : List ℕ) (j : ℕ) → is_move n log j ≡ true → (move_at log j).changed < n
+move_inside n log j valid =
+    let letter : ℕ = get_or log (j * move_size) 0 in
+    let digit : ℕ = get_or log (j * move_size + 1) 0 in
+    let other : ℕ = get_or log (j * move_size + 2) 0 in
+    let changed : Bool = names_slot n letter in
+    let form : Bool = leb 49 digit && leb digit 52 in
+    let stays : Bool = names_slot n other in
+    let ended : Bool = eqb (get_or log (j * move_size + 3) 0) 10 in
+    let four : changed && form && stays && ended ≡ true = (and_parts (changed && form && stays && ended) (not (eqb letter other)) valid).0 in
+    ltb-true (letter - 97) n (and_parts (leb 97 letter) (ltb (letter - 97) n) (all_four changed form stays ended four).0).1
+
+-- and is read in its place
+pub passed_read : (n : ℕ) (log : List ℕ) (j : ℕ) (parts : List (List ℕ)) (d : List ℕ) → log_rules n log ≡ Ok tt
+    → parts ≡ first_chunks move_size (length log / move_size) log → j < length log / move_size → read_move n (get_or parts j d) ≡ Some (move_at log j)
+passed_read n log j parts d fine cut inside =
+    read_at log j n parts d cut inside ∙ ap (λ (b : Bool). cond b (Some (move_at log j)) None) (passed_move n log fine j inside)

@@ -1,7 +1,7 @@
--- What a search for a move finds. No public contract speaks of it.
+-- A move that is found, by a search or in a log.
 use Rattle.std.specs.Prelude.{◌<◌, ℕ, Option, IfSome, ◌≡◌}
 use Rattle.systems.specs.declared.Move.{Move}
 
--- a move found is one between two different slots of the first n
+-- it lies between two different slots of the first n
 abbrev pub FoundBelow : ℕ → Option Move → Type 0
 FoundBelow n r = IfSome r (λ m. (m.changed < n) × (m.other < n) × (m.changed ≡ m.other → ⊥))

@@ -1,5 +1,5 @@
 -- Log records: "One move in a log is 4 bytes: slot changed, form digit, other slot, line feed."
-use Rattle.std.specs.Prelude.{◌%◌, ◌*◌, ◌+◌, ◌-◌, ◌/◌, ℕ, Bool, ◌&&◌, not, List, [], ◌++◌, ◌∷◌, eqb, leb, ltb, get_or, length}
+use Rattle.std.specs.Prelude.{◌%◌, ◌*◌, ◌+◌, ◌-◌, ◌/◌, ℕ, Bool, ◌&&◌, cond, not, List, [], ◌++◌, ◌∷◌, eqb, leb, ltb, get_or, length, None, Option, Some}
 use Rattle.words.specs.Below.{below}
 use Rattle.systems.specs.declared.Move.{Move}
 use Rattle.systems.specs.Moves.{form_digit}
@@ -46,6 +46,10 @@ is_move n log j =
     && names_slot n (get_or log (j * move_size + 2) 0)
     && eqb (get_or log (j * move_size + 3) 0) 10
     && not (eqb (get_or log (j * move_size) 0) (get_or log (j * move_size + 2) 0))
+
+-- the move in one log record, if it is one over n slots
+abbrev pub read_move : ℕ → List ℕ → Option Move
+read_move n bytes = cond (is_move n bytes 0) (Some (move_at bytes 0)) None
 
 -- 8, on a log record of a log over n slots
 abbrev pub move_rule : ℕ → List ℕ → ℕ → Checked

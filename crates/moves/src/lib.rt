@@ -1,4 +1,4 @@
-// Moves on words held in arrays: their log records, and how they are made.
+// Moves on a system of words: their log records, and how they are made.
 #![tactic(auto)]
 
 pub mod log;

@@ -1,7 +1,8 @@
 // Log records: one reader, one writer, one size.
-ghost use Rattle.std.specs.Prelude.{◌*◌, ◌+◌, ◌-◌, ◌<◌, ◌≤◌, true, ◌++◌, ◌≡◌, drop, length, take};
-ghost use Rattle.records.specs.Refusals.{each_below};
-ghost use Rattle.moves.specs.Logs.{is_move, log_record, log_rules, move_at, move_rule, move_size, names_slot};
+ghost use Rattle.std.specs.Prelude.{◌&&◌, ◌*◌, ◌+◌, ◌-◌, ◌<◌, ◌≤◌, ◌++◌, ◌≡◌, None, Some, cond, drop, leb, length, take};
+ghost use Rattle.systems.specs.Rules.{form_at};
+ghost use Rattle.moves.specs.Found.{FoundBelow};
+ghost use Rattle.moves.specs.Logs.{log_record, log_rules, move_size, names_slot, read_move};
 
 use records::answers::{Refusal, check_that};
 use records::refusals::Reason;
@@ -10,94 +11,61 @@ use systems::{Form, Move};
 // The bytes of a log record.
 pub const MOVE: usize = 4;
 
-// How far a byte stands above another.
-fn above(b: u8, base: u8) -> usize
-    requires { base ≤ b }
-    ensures { result ≡ b - base }
+// The slot that a letter names, if it is one of the first n.
+fn named_slot(n: usize, letter: u8) -> Option<usize>
+    ensures { result ≡ cond (names_slot n letter) (Some (letter - 97)) None }
 {
-    (b - base) as usize
+    let slot = letter.checked_sub(b'a')? as usize;
+    if slot < n { Some(slot) } else { None }
 }
 
-// Whether a byte names one of the first n slots.
-fn names_slot(n: usize, b: u8) -> bool
-    ensures { result ≡ names_slot n b }
+// The form that a digit names.
+fn named_form(digit: u8) -> Option<Form>
+    ensures { result ≡ cond (leb 49 digit && leb digit 52) (Some (form_at (digit - 49))) None }
 {
-    if b < 97 {
-        return false;
+    let place = digit.checked_sub(b'1')? as usize;
+    if place < 4 {
+        Some(Form::at(place))
+    } else {
+        None
     }
-    above(b, 97) < n
 }
 
-// Whether a log record is a move over n slots.
-fn is_move(n: usize, log: &[u8], j: usize) -> bool
-    requires { j * move_size + move_size ≤ length log.now }
-    ensures { result ≡ is_move n log.now j }
+// Reads the move in a log record, if it is one over n slots.
+pub fn read_move(n: usize, bytes: &[u8; MOVE]) -> Option<Move>
+    ensures read { result ≡ read_move n bytes.now }
+    ensures between { FoundBelow n result }
 {
-    let at = j * MOVE;
-    let changed = log[at];
-    let digit = log[at + 1];
-    let other = log[at + 2];
-    let end = log[at + 3];
-    if !names_slot(n, changed) {
-        return false;
+    let [changed, digit, other, end] = *bytes;
+    let found = Move {
+        changed: named_slot(n, changed)?,
+        form: named_form(digit)?,
+        other: named_slot(n, other)?,
+    };
+    if end == b'\n' && changed != other {
+        Some(found)
+    } else {
+        None
     }
-    if digit < 49 {
-        return false;
-    }
-    if digit > 52 {
-        return false;
-    }
-    if !names_slot(n, other) {
-        return false;
-    }
-    if end != 10 {
-        return false;
-    }
-    if changed == other {
-        return false;
-    }
-    true
 }
 
-// Refusals 7 and 8.
+// Refusal 7, then 8 log record by log record.
 pub fn check_log(n: usize, log: &[u8]) -> Result<(), Refusal>
     ensures { result ≡ log_rules n log.now }
 {
-    let even = check_that(log.len() % MOVE == 0, Reason::LogUneven, 0);
+    let (log_records, rest) = log.as_chunks::<MOVE>();
+    let even = check_that(rest.is_empty(), Reason::LogUneven, 0);
     let Ok(()) = even else {
         return even;
     };
-    check_moves(n, log, log.len() / MOVE)
-}
-
-// Refusal 8 on the first m log records.
-fn check_moves(n: usize, log: &[u8], m: usize) -> Result<(), Refusal>
-    requires { m * move_size ≤ length log.now }
-    ensures { result ≡ each_below (move_rule n log.now) m }
-{
-    for j in 0..m {
-        let checked = check_that(is_move(n, log, j), Reason::LogRecordMalformed, j * MOVE);
+    for (j, log_record) in log_records.iter().enumerate() {
+        let is_move = read_move(n, log_record).is_some();
+        let checked = check_that(is_move, Reason::LogRecordMalformed, j * MOVE);
         let Ok(()) = checked else {
             return checked;
         };
     }
     Ok(())
-}
-
-// Reads the move in a log record that is one over n slots.
-pub fn read_move(n: usize, log: &[u8], j: usize) -> Move
-    requires inside { j * move_size + move_size ≤ length log.now }
-    requires valid { is_move n log.now j ≡ true }
-    ensures slots { (result.changed < n) × (result.other < n) }
-    ensures apart { result.changed ≡ result.other → ⊥ }
-    ensures read { result ≡ move_at log.now j }
-{
-    let at = j * MOVE;
-    Move {
-        changed: above(log[at], 97),
-        form: Form::at(above(log[at + 1], 49)),
-        other: above(log[at + 2], 97),
-    }
 }
 
 // Writes a move as a log record.
@@ -106,9 +74,12 @@ pub fn write_move(log: &mut [u8], j: usize, m: Move)
     requires slots { (m.changed < 16) × (m.other < 16) }
     ensures { log.new ≡ take (j * move_size) log.old ++ (log_record m ++ drop (j * move_size + move_size) log.old) }
 {
+    let written = [
+        b'a' + m.changed as u8,
+        u8::from(m.form),
+        b'a' + m.other as u8,
+        b'\n',
+    ];
     let at = j * MOVE;
-    log[at] = 97 + m.changed as u8;
-    log[at + 1] = u8::from(m.form);
-    log[at + 2] = 97 + m.other as u8;
-    log[at + 3] = 10;
+    log[at..at + MOVE].copy_from_slice(&written);
 }

@@ -66,7 +66,3 @@ module _ (s p : List ℕ) (room : ℕ) {x : Checked} (tests : x ≡ multiply_tes
 -- a word that passed refusal 12
 pub passed_short : (size : ℕ) {y : Checked} → y ≡ must (leb size 63) WordTooLong 0 → y ≡ Ok tt → size ≤ 63
 passed_short size e h = leb-true size 63 (must_fine (leb size 63) WordTooLong 0 (sym e ∙ h))
-
-pub letters_short : (size : ℕ) (w letters : List ℕ) {y : Checked} → size ≡ length w → letters ≡ w → y ≡ must (leb size 63) WordTooLong 0 → y ≡ Ok tt
-    → length letters ≤ 63
-letters_short size w letters sized same e h = omega (arith, sized, ap length same, passed_short size e h)

@@ -1,41 +1,27 @@
 -- The letters of a product: refusal 9, letter by letter, and the slots that a product which passes it names.
-use Prim.Native.Nat.{◌+◌, ◌<◌, ◌≤◌, suc, zero, ℕ}
+use Prim.Native.Nat.{◌+◌, ◌<◌, suc, zero, ℕ}
 use mathlib.Core.List.{List, [], ◌∷◌, map}
 use mathlib.Core.Path.{◌∙◌, ◌≡◌, ap, refl}
 use native.Mathlib.Omega.{arith}
-use lib.Dec.{ltb}
-use lib.ListN.{drop, drop_of_length-le, get_or, length}
+use lib.ListN.{drop, get_or, length}
 use borrow.Author.Tests.{ltb-true}
-use Rattle.words.proofs.Buffers.{drop_here}
 use Rattle.systems.proofs.ProductLaws.{Named}
+use Rattle.systems.specs.declared.Factor.{Factor}
 use Rattle.records.specs.Records.{word_of}
 use Rattle.records.specs.Refusals.{each_byte, must}
-use Rattle.records.specs.declared.answers.Refusal.{Refusal}
-use Rattle.records.proofs.Chains.{fine_first, fine_next, must_fine, must_passed, then_failed}
-use Rattle.slots.specs.Factors.{factor_of, product_of}
+use Rattle.records.proofs.Chains.{fine_first, fine_next, must_fine}
+use Rattle.slots.specs.Factors.{product_of}
+use Rattle.systems.specs.Factors.{factor_of}
 use Rattle.slots.specs.Systems.{freely_reduced_words, slots}
 use Rattle.slots.proofs.RoundTrip.{words-length}
 use Rattle.multiply.specs.SlotLetters.{has_slot, slot_rule}
 use Rattle.records.specs.declared.refusals.Reason.TheVariants.{SlotMissing}
-use Rattle.std.specs.Prelude.{Err, Ok}
-use Rattle.records.specs.Refusals.{Checked}
+use Rattle.std.specs.Prelude.{Ok}
 
--- refusal 9, one letter of the product after the other
-module _ (n i : ℕ) (r w : List ℕ) (told : w ≡ word_of r) where
-  pub slots_begin : slot_rule n r ≡ each_byte (has_slot n) SlotMissing (drop 0 w) 0
-  unfolding slot_rule
-  slots_begin = rw told refl
-
-  module _ (here : slot_rule n r ≡ each_byte (has_slot n) SlotMissing (drop i w) i) where
-    module _ (inside : i < length w) {x : Checked} (k : ℕ) (named : k ≡ (factor_of (get_or w i 0)).slot) (e : x ≡ must (ltb k n) SlotMissing i) where
-      pub slots_fail : {f : Refusal} → x ≡ Err f → x ≡ slot_rule n r
-      slots_fail bad = rw (here, drop_here w i inside, ← named) (then_failed _ _ e bad)
-
-      pub slots_pass : x ≡ Ok tt → slot_rule n r ≡ each_byte (has_slot n) SlotMissing (drop (i + 1) w) (i + 1)
-      slots_pass good = rw (here, drop_here w i inside, ← named, must_passed (ltb k n) SlotMissing i e good)
-
-    pub slots_end : length w ≤ i → Ok tt ≡ slot_rule n r
-    slots_end l = rw (here, drop_of_length-le w {i = i} l)
+-- refusal 9, from the first letter of the product on
+pub slots_begin : (n : ℕ) (r w : List ℕ) → w ≡ word_of r → slot_rule n r ≡ each_byte (has_slot n) SlotMissing (drop 0 w) 0
+unfolding slot_rule
+slots_begin n r w told = rw told refl
 
 -- a list of letters that passes names only the first n slots
 passed_named : (n : ℕ) (w : List ℕ) (at : ℕ) → each_byte (has_slot n) SlotMissing w at ≡ Ok tt → Named (λ k. k < n) (map factor_of w)
@@ -56,8 +42,8 @@ unfolding slot_rule
 slots-named n r e = passed_named n (word_of r) 0 e
 
 -- and so does each of its letters, over the words that are taken in
-pub slot_inside : (s r w : List ℕ) (S : List (List ℕ)) (i k : ℕ) → slot_rule (slots s) r ≡ Ok tt → w ≡ word_of r → S ≡ freely_reduced_words s
-    → i < length w → k ≡ (factor_of (get_or w i 0)).slot → k < length S
-slot_inside s r w S i k e told loaded inside named =
+pub slot_inside : (s r w : List ℕ) (S : List (List ℕ)) (i : ℕ) (f : Factor) → slot_rule (slots s) r ≡ Ok tt → w ≡ word_of r → S ≡ freely_reduced_words s
+    → i < length w → f ≡ factor_of (get_or w i 0) → f.slot < length S
+slot_inside s r w S i f e told loaded inside named =
     let below : (factor_of (get_or (word_of r) i 0)).slot < slots s = named_at (slots s) (word_of r) i (slots-named (slots s) r e) (rw told at inside) in
-    omega (arith, ap length loaded ∙ words-length s, named ∙ ap (λ (l : List ℕ). (factor_of (get_or l i 0)).slot) told, below)
+    omega (arith, ap length loaded ∙ words-length s, ap (λ (g : Factor). g.slot) named ∙ ap (λ (l : List ℕ). (factor_of (get_or l i 0)).slot) told, below)

@@ -2,7 +2,7 @@
 use Rattle.std.specs.Prelude.{ℕ, Bool, List, ltb}
 use Rattle.records.specs.Records.{word_of}
 use Rattle.records.specs.Refusals.{each_byte}
-use Rattle.slots.specs.Factors.{factor_of}
+use Rattle.systems.specs.Factors.{factor_of}
 use Rattle.records.specs.declared.refusals.Reason.TheVariants.{SlotMissing}
 use Rattle.records.specs.Refusals.{Checked}
 

@@ -6,12 +6,13 @@ ghost use Rattle.slots.specs.Systems.{slots};
 ghost use Rattle.multiply.specs.Multiply.{multiply_answer, multiply_buffer, multiply_tests, product_word};
 ghost use Rattle.multiply.specs.SlotLetters.{slot_rule};
 
-use crate::letters::{check_slots, slot_of};
+use crate::letters::check_slots;
 use records::answers::{Answer, Refusal, check_that};
-use records::record::{RECORD, check_target, word_length, write_record};
+use records::record::{RECORD, as_record, check_target, word_in, write_record};
 use records::refusals::Reason;
 use slots::checks::{check_room, check_system};
 use slots::system::System;
+use systems::Factor;
 use words::word::Word;
 
 pub mod letters;
@@ -26,7 +27,7 @@ pub fn multiply(system: &[u8], product: &[u8], word: &mut [u8]) -> Answer
         return Answer::from(checked);
     };
     let mut result = Word::new();
-    product_word(system, product, &mut result);
+    product_word(system, as_record(product), &mut result);
     let fitted = check_that(result.len() <= 63, Reason::WordTooLong, 0);
     let Ok(()) = fitted else {
         return Answer::from(fitted);
@@ -47,27 +48,24 @@ fn check_multiply(system: &[u8], product: &[u8], room: usize) -> Result<(), Refu
     let Ok(()) = targeted else {
         return targeted;
     };
-    let slotted = check_slots(system.len() / RECORD, product);
+    let slotted = check_slots(system.len() / RECORD, as_record(product));
     let Ok(()) = slotted else {
         return slotted;
     };
-    let roomy = check_room(RECORD, room);
-    let Ok(()) = roomy else {
-        return roomy;
-    };
-    Ok(())
+    check_room(RECORD, room)
 }
 
 // Multiplies a product out over the words of a system, in place of an empty word. A capital stands for the inverse.
 // The word, of up to 63 times 63 letters, is lent: returned, it was copied twice, which misses the speed bar.
-fn product_word(system: &[u8], product: &[u8], word: &mut Word<4096>)
-    requires sizes { (length system.now ≤ 1024) × (length product.now ≡ 64) }
+fn product_word(system: &[u8], product: &[u8; 64], word: &mut Word<4096>)
+    requires size { length system.now ≤ 1024 }
     requires named { slot_rule (slots system.now) product.now ≡ Ok tt }
     requires empty { word.old ≡ [] }
     ensures { word.new ≡ product_word system.now product.now }
 {
-    let loaded = System::load(system);
-    for letter in &product[..word_length(product)] {
-        word.multiply(*letter < b'a', loaded.word(slot_of(*letter)));
+    let mut loaded = System::new();
+    loaded.load(system);
+    for letter in word_in(product) {
+        loaded.multiply(word, Factor::from(*letter));
     }
 }

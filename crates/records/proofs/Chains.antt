@@ -1,13 +1,12 @@
 -- Chains of tests and walks over numbered tests: the first that fails decides; and what a call answers by what its tests found.
 use Prim.Native.Nat.{◌+◌, ◌-◌, ◌<◌, ◌≤◌, suc, zero, ℕ}
-use mathlib.Core.Bool.{Bool, false, not, true, true≢false}
+use mathlib.Core.Bool.{Bool, false, true, true≢false}
 use mathlib.Core.List.{List}
 use mathlib.Core.Path.{◌∙◌, ◌≡◌, ap, refl, sym}
 use native.Mathlib.Decide.{dec_lt}
 use native.Mathlib.Nat.{le_antisymm, suc-add, zero-add}
 use native.Mathlib.Numerals.{add-one}
 use native.Mathlib.Omega.{arith}
-use borrow.Author.Tests.{not-false, not-true}
 use Rattle.records.specs.Answers.{answer_of, on_fine}
 use Rattle.records.specs.declared.answers.Answer.{Answer}
 use Rattle.records.specs.declared.answers.Refusal.{Refusal}
@@ -16,22 +15,12 @@ use Rattle.std.specs.Prelude.{Err, Ok}
 use Rattle.records.specs.Refusals.{Checked}
 use Rattle.records.specs.declared.refusals.Reason.{Reason}
 
--- the outcome of a test that a callee made
-pub told_false : {t : Bool} {u : Bool} → t ≡ u → not t ≡ true → u ≡ false
-told_false {t} e h = sym e ∙ not-true t h
-
-pub told_true : {t : Bool} {u : Bool} → t ≡ u → not t ≡ false → u ≡ true
-told_true {t} e h = sym e ∙ not-false t h
-
 -- a chain of tests: the first that fails decides, and where one is passed the rest does
 pub then_failed : {r : Checked} (c d : Checked) {f : Refusal} → r ≡ c → r ≡ Err f → r ≡ c and_then d
 then_failed c d e h = rw (← e, h)
 
 pub then_fine : {q r : Checked} (c d : Checked) → q ≡ c → q ≡ Ok tt → r ≡ d → r ≡ c and_then d
 then_fine c d e h k = rw (← e, h, k)
-
-pub then_end : {q : Checked} (c : Checked) → q ≡ c → q ≡ Ok tt → Ok tt ≡ c
-then_end c e h = sym h ∙ e
 
 pub must_pass : (b : Bool) (n : Reason) (at : ℕ) → b ≡ true → must b n at ≡ Ok tt
 must_pass b n at e = rw e
@@ -45,10 +34,6 @@ must_fine false n at e = let z : ◌≡◌ {A = ℕ} 0 1 = cc in absurd (omega a
 
 pub must_passed : (b : Bool) (n : Reason) (at : ℕ) {x : Checked} → x ≡ must b n at → x ≡ Ok tt → b ≡ true
 must_passed b n at e h = must_fine b n at (sym e ∙ h)
-
-pub must-refused : (b : Bool) (n : Reason) (at : ℕ) {x : Checked} {f : Refusal} → x ≡ must b n at → x ≡ Err f → (b ≡ false) × (x ≡ refusal n at)
-must-refused false n at e h = (refl, e)
-must-refused true n at e h = let z : ◌≡◌ {A = ℕ} 0 1 = cc in absurd (omega arith)
 
 pub must_fail : (b : Bool) (n : Reason) (at : ℕ) {x : Checked} → b ≡ false → x ≡ refusal n at → x ≡ must b n at
 must_fail b n at e h = rw e h
@@ -78,9 +63,6 @@ never e = absurd (true≢false (sym e))
 -- where the first tests are known to be passed
 pub passed_changed : {y : List ℕ} (c : Checked) (new old : List ℕ) → c ≡ Ok tt → y ≡ new → y ≡ on_fine c new old
 passed_changed c new old e told = rw e told
-
-pub passed_then : {r : Checked} (c d : Checked) → c ≡ Ok tt → r ≡ d → r ≡ c and_then d
-passed_then c d e k = rw e k
 
 -- a walk over numbered tests: the first that fails decides
 module _ (check : ℕ → Checked) where

@@ -1,4 +1,4 @@
--- A record written: full stops one at a time, then the word, then the line feed.
+-- A record written: full stops, then the word over them, then the line feed.
 use Prim.Native.Nat.{◌+◌, ◌-◌, ◌≤◌, suc, ℕ}
 use mathlib.Core.List.{List, [], ◌++◌, ◌∷◌, append_assoc}
 use mathlib.Core.Path.{◌∙◌, ◌≡◌, ap, sym}

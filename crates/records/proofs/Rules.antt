@@ -1,24 +1,25 @@
--- The tests of a record on lists of bytes, as loops make them: the answer of the whole is the answer from the present place on.
-use Prim.Native.Nat.{◌%◌, ◌+◌, ◌-◌, ◌<◌, ◌≤◌, ℕ}
+-- The tests of a record on lists of bytes, by searches for the first byte that breaks an order; and the word in a record.
+use Prim.Native.Nat.{◌%◌, ◌+◌, ◌-◌, ◌<◌, ◌≤◌, suc, ℕ}
 use mathlib.Core.Bool.{Bool, false, not, true, true≢false}
-use mathlib.Core.List.{List, [], ◌++◌, ◌∷◌, append_assoc, append-nil}
-use mathlib.Core.Path.{◌∙◌, ◌≡◌, ap, refl, sym}
+use mathlib.Core.List.{List, [], ◌∷◌}
+use mathlib.Core.Path.{◌∙◌, ◌≡◌, ap, ap₂, refl, sym}
 use native.Mathlib.Decide.{dec_lt, ℕ_discrete}
-use native.Mathlib.Nat.{add_assoc, add-zero, le_antisymm, le_of_eq}
-use native.Mathlib.Numerals.{add-one}
+use native.Mathlib.Nat.{add_assoc, add-zero}
 use native.Mathlib.Omega.{arith}
-use lib.Dec.{eqb, ltb}
-use lib.ListN.{drop, drop_of_length-le, get_or, length, length-drop, take}
-use lib.Seq.{get_or-drop, get_or-take, length-take-le, take-suc}
-use borrow.Author.Tests.{eq-eqb, eqb-true, le-leb, le-ltb, lt-leb, lt-ltb, ne_eqb}
-use Rattle.words.proofs.Buffers.{drop_here, rest_part}
+use Rattle.std.proofs.lemmas.Grind.{common_steps}
+use Rattle.std.proofs.Common.{take_all}
+use Rattle.std.proofs.lemmas.Iterator.Adapters.{position_from-zero}
+use lib.Dec.{ltb}
+use lib.ListN.{drop, get_or, length, take}
+use lib.Seq.{drop-drop}
+use borrow.Author.Tests.{eqb-true, le-leb, le-ltb, lt-leb, lt-ltb, ne_eqb}
 use Rattle.records.specs.Records.{before_stop, is_letter, is_letter_or_stop, is_stop, not_letter, word_of}
-use Rattle.records.specs.Refusals.{byte_rule, each_byte, letters_rule, must, refusal}
+use Rattle.records.specs.Refusals.{◌and_then◌, byte_rule, each_byte, letters_rule, must, refusal}
 use Rattle.records.specs.Stops.{stops_rule}
-use Rattle.records.specs.declared.answers.Refusal.{Refusal}
-use Rattle.records.proofs.Chains.{fine_first, must_fine, must_passed, must-refused, then_failed, then_fine, told_false, told_true}
+use Rattle.records.proofs.Chains.{fine_first, must_fine, then_failed, then_fine}
 use Rattle.records.specs.declared.refusals.Reason.TheVariants.{LetterAfterStop, NeitherLetterNorStop}
-use Rattle.std.specs.Prelude.{Err, Ok}
+use Rattle.std.specs.Prelude.{None, Ok, Option, Some}
+use Rattle.std.specs.List.{position, position_from, position_or_len}
 use Rattle.records.specs.Refusals.{Checked}
 use Rattle.records.specs.declared.refusals.Reason.{Reason}
 
@@ -39,12 +40,6 @@ module _ (b : ℕ) where
       go (yes m) (yes q) = rw (le-leb 65 b l, lt-leb b 90 m, lt-leb 97 b q, le-ltb ((b - 65) % 32) 26 (omega arith))
       go (yes m) (no q) = rw (le-leb 65 b l, lt-leb b 90 m, le-leb 97 b (omega arith), le-leb b 122 h, lt-ltb ((b - 65) % 32) 26 (omega arith))
 
-  pub letter_or_stop : {t : Bool} → t ≡ is_letter b → t ≡ true → true ≡ is_letter_or_stop b
-  letter_or_stop e h = rw (← e, h)
-
-  pub stop_or_not : {t : Bool} → t ≡ is_letter b → t ≡ false → is_stop b ≡ is_letter_or_stop b
-  stop_or_not e h = rw (← e, h)
-
   -- a byte that passes rule 4 and is no full stop is a letter
   pub letter_left : is_letter_or_stop b ≡ true → is_stop b ≡ false → is_letter b ≡ true
   letter_left e h = go (is_letter b) refl
@@ -57,23 +52,6 @@ module _ (b : ℕ) where
 next_place : (at i : ℕ) → at + i + 1 ≡ at + (i + 1)
 next_place at i = add_assoc at i 1
 
--- a test on each byte of a list, whose outcome at the present byte is t
-module _ (test : ℕ → Bool) (n : Reason) (s : List ℕ) (at : ℕ) where
-  pub bytes_begin : each_byte test n s at ≡ each_byte test n (drop 0 s) (at + 0)
-  bytes_begin = rw add-zero
-
-  module _ (i : ℕ) (here : each_byte test n s at ≡ each_byte test n (drop i s) (at + i)) where
-    pub bytes_end : length s ≤ i → Ok tt ≡ each_byte test n s at
-    bytes_end l = rw (here, drop_of_length-le s l)
-
-    module _ (inside : i < length s) where
-      module _ {x : Checked} (e : x ≡ must (test (get_or s i 0)) n (at + i)) where
-        pub bytes_fail : {f : Refusal} → x ≡ Err f → x ≡ each_byte test n s at
-        bytes_fail bad = rw (here, drop_here s i inside) (then_failed _ _ e bad)
-
-        pub bytes_pass : x ≡ Ok tt → each_byte test n s at ≡ each_byte test n (drop (i + 1) s) (at + (i + 1))
-        bytes_pass good = rw (here, drop_here s i inside, must_passed (test (get_or s i 0)) n (at + i) e good, next_place)
-
 -- a letter decides neither rule
 pub letter_passed : (b : ℕ) (r : List ℕ) (at : ℕ) → is_letter b ≡ true → letters_rule (b ∷ r) at ≡ letters_rule r (at + 1)
 unfolding letters_rule
@@ -85,89 +63,119 @@ unfolding letters_rule stops_rule
 no_letter [] at e = refl
 no_letter (b ∷ r) at e = elim (ℕ_discrete b 46) [ yes s ↦ rw s | no n ↦ rw (e, ne_eqb b 46 n) ]
 
-first_of : (s : List ℕ) (i : ℕ) → get_or (take (length s - i) (drop i s)) 0 0 ≡ get_or s i 0
-first_of s i = ap (λ (r : List ℕ). get_or r 0 0) (rest_part s i) ∙ get_or-drop i s 0 0 ∙ ap (λ (k : ℕ). get_or s k 0) (add-zero i)
+-- a test on each byte fails at the first byte that breaks it
+each_from : (test : ℕ → Bool) (why : Reason) (at i : ℕ) (r : List ℕ)
+    → each_byte test why r (at + i) ≡ elim (position_from (λ b. not (test b)) i r) [ None ↦ Ok tt | Some k ↦ refusal why (at + k) ]
+each_from test why at i [] = refl
+each_from test why at i (b ∷ r) = go (test b) refl (each_from test why at (i + 1) r)
+  where
+    go : (t : Bool) → test b ≡ t
+        → each_byte test why r (at + (i + 1)) ≡ elim (position_from (λ b. not (test b)) (i + 1) r) [ None ↦ Ok tt | Some k ↦ refusal why (at + k) ]
+        → each_byte test why (b ∷ r) (at + i) ≡ elim (position_from (λ b. not (test b)) i (b ∷ r)) [ None ↦ Ok tt | Some k ↦ refusal why (at + k) ]
+    go true e rest = rw (e, next_place) rest
+    go false e rest = rw e refl
 
--- the letters, then the full stops, each with what is left of the bytes
+-- what is judged of bytes that begin with one that is no full stop: 4 at the first that is neither a letter nor a full stop, or else 5
+abbrev late_rule : List ℕ → ℕ → Checked
+late_rule r at =
+    elim (position_from (λ b. not (is_letter_or_stop b)) 0 r) [ None ↦ refusal LetterAfterStop at | Some k ↦ refusal NeitherLetterNorStop (at + k) ]
+
+late_told : (b : ℕ) (r : List ℕ) (at : ℕ) → is_stop b ≡ false → stops_rule (b ∷ r) at ≡ late_rule (b ∷ r) at
+unfolding stops_rule
+late_told b r at e = go (position_from (λ b. not (is_letter_or_stop b)) 0 (b ∷ r)) (rw (← add-zero at) (each_from is_letter_or_stop NeitherLetterNorStop at 0 (b ∷ r)))
+  where
+    go : (o : Option ℕ) → byte_rule (b ∷ r) at ≡ elim o [ None ↦ Ok tt | Some k ↦ refusal NeitherLetterNorStop (at + k) ]
+        → byte_rule (b ∷ r) at and_then each_byte not_letter LetterAfterStop (b ∷ r) at
+        ≡ elim o [ None ↦ refusal LetterAfterStop at | Some k ↦ refusal NeitherLetterNorStop (at + k) ]
+    go None h =
+        let good : is_letter_or_stop b ≡ true = must_fine (is_letter_or_stop b) NeitherLetterNorStop at (fine_first (must (is_letter_or_stop b) NeitherLetterNorStop at) _ h) in
+        sym (then_fine _ _ refl h (rw (letter_left b good e)))
+    go (Some k) h = sym (then_failed _ _ refl h) ∙ h
+
+-- a search that is at place i of a list s, where the bytes r are left
 module _ (s : List ℕ) (at : ℕ) where
-  pub letters_begin : letters_rule s at ≡ letters_rule (drop 0 s) (at + 0)
-  letters_begin = rw add-zero
+  one_on : (i b : ℕ) (r : List ℕ) → b ∷ r ≡ drop i s → r ≡ drop (i + 1) s
+  one_on i b r left = ap (drop 1) left ∙ drop-drop 1 i s
 
-  pub stops_begin : stops_rule s at ≡ stops_rule (drop 0 s) (at + 0)
-  stops_begin = rw add-zero
+  -- what is judged from the first byte on that passes a test, or nothing where none does
+  abbrev FromFirst : (ℕ → Bool) → (List ℕ → ℕ → Checked) → ℕ → List ℕ → Checked → Type 0
+  FromFirst test rule i r x = x ≡ elim (position_from test i r) [ None ↦ Ok tt | Some k ↦ rule (drop k s) (at + k) ]
 
-  module _ (i : ℕ) (here : letters_rule s at ≡ letters_rule (drop i s) (at + i)) where
-    pub letters_end : length s ≤ i → Ok tt ≡ letters_rule s at
-    unfolding letters_rule
-    letters_end l = rw (here, drop_of_length-le s l)
-
-    module _ {t : Bool} (told : t ≡ is_letter (get_or s i 0)) where
-      pub letters_more : i < length s → not t ≡ false → letters_rule s at ≡ letters_rule (drop (i + 1) s) (at + (i + 1))
-      letters_more inside e =
-          here ∙ ap (λ (r : List ℕ). letters_rule r (at + i)) (drop_here s i inside)
-          ∙ letter_passed (get_or s i 0) (drop (i + 1) s) (at + i) (told_true told e) ∙ ap (letters_rule (drop (i + 1) s)) (next_place at i)
-
-      pub letters_stop : {r : Checked} → not t ≡ true → r ≡ stops_rule (take (length s - i) (drop i s)) (at + i) → r ≡ letters_rule s at
-      letters_stop e h =
-          h ∙ no_letter (take (length s - i) (drop i s)) (at + i) (ap is_letter (first_of s i) ∙ told_false told e)
-          ∙ ap (λ (l : List ℕ). letters_rule l (at + i)) (rest_part s i) ∙ sym here
-
-  module _ (i : ℕ) (here : stops_rule s at ≡ stops_rule (drop i s) (at + i)) where
-    pub stops_end : length s ≤ i → Ok tt ≡ stops_rule s at
-    unfolding stops_rule
-    stops_end l = rw (here, drop_of_length-le s l)
-
-    pub stops-more : {x : Checked} → i < length s → x ≡ must (eqb (get_or s i 0) 46) LetterAfterStop (at + i) → x ≡ Ok tt
-        → stops_rule s at ≡ stops_rule (drop (i + 1) s) (at + (i + 1))
-    unfolding stops_rule
-    stops-more inside e h = rw (here, drop_here s i inside, eqb-true (get_or s i 0) 46 (must_passed _ _ _ e h), next_place)
-
-    pub stops-rest : {r : Checked} → r ≡ stops_rule (take (length s - i) (drop i s)) (at + i) → r ≡ stops_rule s at
-    stops-rest h = h ∙ ap (λ (l : List ℕ). stops_rule l (at + i)) (rest_part s i) ∙ sym here
-
--- a byte that is no full stop is left, and the refusal at its place
-module _ (s : List ℕ) (i : ℕ) (n : Reason) (at : ℕ) {x : Checked} {f : Refusal} (e : x ≡ must (eqb (get_or s i 0) 46) n at) (h : x ≡ Err f) where
-  pub rest-first : get_or (take (length s - i) (drop i s)) 0 0 ≡ 46 → ⊥
-  rest-first stop = true≢false (sym (eq-eqb _ _ (sym (first_of s i) ∙ stop)) ∙ (must-refused (eqb (get_or s i 0) 46) n at e h).0)
-
-  pub rest-refused : x ≡ refusal n at
-  rest-refused = (must-refused (eqb (get_or s i 0) 46) n at e h).1
-
-pub rest_filled : (s : List ℕ) (i : ℕ) → i < length s → 0 < length (take (length s - i) (drop i s))
-rest_filled s i inside = rw (rest_part s i, length-drop i s) (omega arith)
-
-module _ (s : List ℕ) (at : ℕ) where
-  pub rest-bytes : {x : Checked} {f : Refusal} → x ≡ byte_rule s at → x ≡ Err f → x ≡ stops_rule s at
-  unfolding stops_rule
-  rest-bytes e h = then_failed _ _ e h
-
-  pub rest-letter : {q x : Checked} → (get_or s 0 0 ≡ 46 → ⊥) → 0 < length s → q ≡ byte_rule s at → q ≡ Ok tt → x ≡ refusal LetterAfterStop at → x ≡ stops_rule s at
-  unfolding stops_rule
-  rest-letter n filled e h told = then_fine _ _ e h (told ∙ sym (first-letter s n filled (sym e ∙ h)))
+  -- after the letters
+  letters_from : (i : ℕ) (r : List ℕ) → r ≡ drop i s → FromFirst not_letter stops_rule i r (letters_rule r (at + i))
+  unfolding letters_rule
+  letters_from i [] left = refl
+  letters_from i (b ∷ r) left = go (is_letter b) refl (letters_from (i + 1) r (one_on i b r left))
     where
-      first-letter : (r : List ℕ) → (get_or r 0 0 ≡ 46 → ⊥) → 0 < length r → byte_rule r at ≡ Ok tt → each_byte not_letter LetterAfterStop r at ≡ refusal LetterAfterStop at
-      first-letter [] n filled fine = absurd (omega arith)
-      first-letter (b ∷ r) n filled fine =
-          let good : is_letter_or_stop b ≡ true = must_fine (is_letter_or_stop b) NeitherLetterNorStop at (fine_first (must (is_letter_or_stop b) NeitherLetterNorStop at) _ fine) in
-          rw (letter_left b good (ne_eqb b 46 n))
+      go : (t : Bool) → is_letter b ≡ t → FromFirst not_letter stops_rule (i + 1) r (letters_rule r (at + (i + 1)))
+          → FromFirst not_letter stops_rule i (b ∷ r) (letters_rule (b ∷ r) (at + i))
+      go true e rest = letter_passed b r (at + i) e ∙ ap (letters_rule r) (next_place at i) ∙ rw e rest
+      go false e rest = sym (no_letter (b ∷ r) (at + i) e) ∙ ap (λ (l : List ℕ). stops_rule l (at + i)) left ∙ rw e refl
 
--- a list with no full stop among its first n bytes
-all_letters : (n i : ℕ) (r : List ℕ) {w : List ℕ} → n ≤ i → i ≤ n → n ≤ length r
-    → w ≡ take i r ++ before_stop (drop i (take n r)) → take n r ≡ w
-all_letters n i r h l room e =
-    rw (e, le_antisymm l h, drop_of_length-le (take n r) (le_of_eq (length-take-le n r room)), append-nil)
+  -- after the full stops
+  stops_from : (i : ℕ) (r : List ℕ) → r ≡ drop i s → FromFirst (λ b. not (is_stop b)) late_rule i r (stops_rule r (at + i))
+  unfolding stops_rule
+  stops_from i [] left = refl
+  stops_from i (b ∷ r) left = go (is_stop b) refl (stops_from (i + 1) r (one_on i b r left))
+    where
+      go : (t : Bool) → is_stop b ≡ t → FromFirst (λ b. not (is_stop b)) late_rule (i + 1) r (stops_rule r (at + (i + 1)))
+          → FromFirst (λ b. not (is_stop b)) late_rule i (b ∷ r) (stops_rule (b ∷ r) (at + i))
+      go true e rest = rw (eqb-true b 46 e) (ap (stops_rule r) (next_place at i) ∙ rest)
+      go false e rest = late_told b r (at + i) e ∙ ap (λ (l : List ℕ). late_rule l (at + i)) left ∙ rw e refl
 
--- the word in a record, up to the first full stop
-module _ (r : List ℕ) (i : ℕ) (here : word_of r ≡ take i r ++ before_stop (drop i (take 63 r))) (sized : length r ≡ 64) where
-  within : (h : i < 63) → drop i (take 63 r) ≡ get_or r i 0 ∷ drop (i + 1) (take 63 r)
-  within h = rw (drop_here (take 63 r) i (rw (length-take-le 63 r (omega arith)) h), get_or-take)
+-- a record's bytes, judged by three searches: for the first that is no letter, from there on for the first that is no full stop, and from
+-- there on for the first that is neither
+module _ (s : List ℕ) (at : ℕ) {o : Option ℕ} (letters : o ≡ position not_letter s) where
+  from_letters : FromFirst s at not_letter stops_rule 0 s (letters_rule s at)
+  from_letters = rw (← add-zero at) (letters_from s at 0 s refl)
 
-  pub word_stop : i < 63 → get_or r i 0 ≡ 46 → take i r ≡ word_of r
-  word_stop h stop = rw (here, within h, eq-eqb _ _ stop, append-nil)
+  pub only_letters : o ≡ None → Ok tt ≡ letters_rule s at
+  only_letters none = sym (from_letters ∙ rw (← position_from-zero not_letter s, ← letters, none) refl)
 
-  pub word-letter : i < 63 → (get_or r i 0 ≡ 46 → ⊥) → word_of r ≡ take (i + 1) r ++ before_stop (drop (i + 1) (take 63 r))
-  word-letter h no_stop =
-      rw (here, within h, ne_eqb _ _ no_stop, add-one, take-suc r i 0 (omega arith), append_assoc)
+  module _ {l : ℕ} (some : o ≡ Some l) {p : Option ℕ} (stops : p ≡ position (λ b. not (is_stop b)) (drop l s)) where
+    from_stops : FromFirst (drop l s) (at + l) (λ b. not (is_stop b)) late_rule 0 (drop l s) (letters_rule s at)
+    from_stops = from_letters ∙ rw (← position_from-zero not_letter s, ← letters, some) (rw (← add-zero (at + l)) (stops_from (drop l s) (at + l) 0 (drop l s) refl))
 
-  pub word_full : 63 ≤ i → i ≤ 63 → take 63 r ≡ word_of r
-  word_full h l = all_letters 63 i r h l (omega arith) here
+    pub only_stops : p ≡ None → Ok tt ≡ letters_rule s at
+    only_stops none = sym (from_stops ∙ rw (← position_from-zero (λ b. not (is_stop b)) (drop l s), ← stops, none) refl)
+
+    module _ {k : ℕ} (late : p ≡ Some k) {q : Option ℕ} (unknown : q ≡ position (λ b. not (is_letter_or_stop b)) (drop (l + k) s)) where
+      from_late : late_rule (drop (l + k) s) (at + (l + k)) ≡ letters_rule s at
+      from_late = sym (from_stops ∙ rw (← position_from-zero (λ b. not (is_stop b)) (drop l s), ← stops, late) (ap₂ late_rule (drop-drop k l s) (add_assoc at l k)))
+
+      from_last : letters_rule s at ≡ elim q [ None ↦ refusal LetterAfterStop (at + (l + k)) | Some m ↦ refusal NeitherLetterNorStop (at + (l + k) + m) ]
+      from_last =
+          sym from_late
+          ∙ ap (λ (o : Option ℕ). elim o [ None ↦ refusal LetterAfterStop (at + (l + k)) | Some m ↦ refusal NeitherLetterNorStop (at + (l + k) + m) ])
+          (sym (unknown ∙ position_from-zero (λ b. not (is_letter_or_stop b)) (drop (l + k) s)))
+
+      pub letter_late : {x : Checked} → q ≡ None → x ≡ refusal LetterAfterStop (at + (l + k)) → x ≡ letters_rule s at
+      letter_late none e = e ∙ sym (from_last ∙ rw none refl)
+
+      pub unknown_late : {x : Checked} {m : ℕ} → q ≡ Some m → x ≡ refusal NeitherLetterNorStop (at + (l + k) + m) → x ≡ letters_rule s at
+      unknown_late there e = e ∙ sym (from_last ∙ rw there refl)
+
+-- the letters before the first full stop
+stop_at : (w : List ℕ) → take (position_or_len is_stop w) w ≡ before_stop w
+stop_at [] = refl
+stop_at (b ∷ w) = go (is_stop b) refl (stop_at w)
+  where
+    go : (t : Bool) → is_stop b ≡ t → take (position_or_len is_stop w) w ≡ before_stop w → take (position_or_len is_stop (b ∷ w)) (b ∷ w) ≡ before_stop (b ∷ w)
+    go true e rest = rw e refl
+    go false e rest =
+        let step : 1 + position_or_len is_stop w ≡ suc (position_or_len is_stop w) = omega arith in
+        rw e (ap (λ (n : ℕ). take n (b ∷ w)) step ∙ ap (λ (l : List ℕ). b ∷ l) rest)
+
+-- the word in a record, by a search for the first full stop
+module _ (r : List ℕ) {o : Option ℕ} (found : o ≡ position is_stop (take 63 r)) where
+  pub word_ended : {e : ℕ} → o ≡ Some e → take e (take 63 r) ≡ word_of r
+  word_ended {e} there =
+      let same : position is_stop (take 63 r) ≡ Some e = sym found ∙ there in
+      let at : position_or_len is_stop (take 63 r) ≡ e = grind (arith, common_steps) in
+      ap (λ (n : ℕ). take n (take 63 r)) (sym at) ∙ stop_at (take 63 r)
+
+  pub word_whole : o ≡ None → take 63 r ≡ word_of r
+  word_whole none =
+      let same : position is_stop (take 63 r) ≡ None = sym found ∙ none in
+      let all : length (take 63 r) ≤ position_or_len is_stop (take 63 r) = grind (arith, common_steps) in
+      sym (take_all (position_or_len is_stop (take 63 r)) (take 63 r) all) ∙ stop_at (take 63 r)

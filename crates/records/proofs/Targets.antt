@@ -1,38 +1,34 @@
 -- A target or a product beside a system: refusal 6, case by case, and what a record that passes it tells.
 use Prim.Native.Nat.{ℕ}
 use mathlib.Core.List.{List}
-use mathlib.Core.Path.{◌∙◌, ◌≡◌, ap, sym}
+use mathlib.Core.Path.{◌∙◌, ◌≡◌, sym}
 use lib.Dec.{eqb}
 use lib.ListN.{length}
-use borrow.Author.Tests.{eq-eqb, eqb-true}
-use Rattle.records.specs.Refusals.{as_six, must, record_rules, refusal, target_rules}
+use borrow.Author.Tests.{eq-eqb, eqb-true, ne_eqb}
+use Rattle.records.specs.Refusals.{must, record_rules, refusal, target_rules}
 use Rattle.records.specs.declared.answers.Refusal.{Refusal}
-use Rattle.records.proofs.Chains.{fine_first, must_fine, must_passed, then_fine}
+use Rattle.records.proofs.Chains.{fine_first, must_fine}
 use Rattle.records.specs.declared.refusals.Reason.TheVariants.{TargetOrProductMalformed}
 use Rattle.std.specs.Prelude.{Err, Ok}
 use Rattle.records.specs.Refusals.{Checked}
 
--- refusal 6, case by case
-module _ (r : List ℕ) {sized : Checked} (told : sized ≡ must (eqb (length r) 64) TargetOrProductMalformed 0) (passed : sized ≡ Ok tt) where
-  pub target-length : length r ≡ 64
-  target-length = eqb-true _ _ (must_passed _ TargetOrProductMalformed 0 told passed)
+-- refusal 6, case by case: of another length, and of 64 bytes by what a record's rules say
+pub target_uneven : (r : List ℕ) {x : Checked} → (length r ≡ 64 → ⊥) → x ≡ refusal TargetOrProductMalformed 0 → x ≡ target_rules r
+unfolding target_rules
+target_uneven r n e = rw (ne_eqb (length r) 64 n) e
 
-  module _ {x : Checked} (e : x ≡ record_rules r 0) where
-    pub target_broken : {y : Checked} → y ≡ as_six x → y ≡ target_rules r
-    unfolding target_rules
-    target_broken h = then_fine _ _ told passed (h ∙ ap as_six e)
+module _ (r : List ℕ) (sized : length r ≡ 64) {x : Checked} (e : x ≡ record_rules r 0) where
+  pub target_fine : x ≡ Ok tt → Ok tt ≡ target_rules r
+  unfolding target_rules
+  target_fine h = rw (eq-eqb _ _ sized, ← e, h)
 
-    pub target_fine : x ≡ Ok tt → Ok tt ≡ target_rules r
-    unfolding target_rules
-    target_fine h = then_fine _ _ told passed (sym (ap as_six (sym e ∙ h)))
+  pub target_refused : {y : Checked} {f : Refusal} → x ≡ Err f → y ≡ refusal TargetOrProductMalformed f.place → y ≡ target_rules r
+  unfolding target_rules
+  target_refused h k = rw (eq-eqb _ _ sized, ← e, h) k
 
 pub target_passes : (r : List ℕ) → length r ≡ 64 → record_rules r 0 ≡ Ok tt → target_rules r ≡ Ok tt
 unfolding target_rules
 target_passes r sized e = rw (eq-eqb _ _ sized, e)
-
--- a refusal of a record, as refusal 6
-pub six_told : {x y : Checked} {f : Refusal} → x ≡ Err f → y ≡ refusal TargetOrProductMalformed f.place → y ≡ as_six x
-six_told h e = rw (h, e)
 
 -- a target that passes is 64 bytes long
 pub target-sized : (r : List ℕ) → target_rules r ≡ Ok tt → length r ≡ 64

@@ -1,4 +1,4 @@
--- What is tested after the letters of a record. No public contract speaks of it.
+-- What is tested after the letters of a record. No call's contract speaks of it.
 use Rattle.std.specs.Prelude.{ℕ, List}
 use Rattle.records.specs.Records.{not_letter}
 use Rattle.records.specs.Refusals.{◌and_then◌, byte_rule, each_byte}

@@ -30,9 +30,8 @@ fn is_letter_or_stop(b: u8) -> bool
 }
 
 // Refusals 3 to 5 on a record that starts at a place of its buffer.
-pub fn check_record(bytes: &[u8], at: usize) -> Result<(), Refusal>
-    requires size { length bytes.now ≡ 64 }
-    requires place { at ≤ 4096 }
+pub fn check_record(bytes: &[u8; 64], at: usize) -> Result<(), Refusal>
+    requires { at ≤ 4096 }
     ensures { result ≡ record_rules bytes.now at }
 {
     let ended = check_that(bytes[63] == LINE_FEED, Reason::NoLineFeed, at + 63);
@@ -46,97 +45,54 @@ pub fn check_record(bytes: &[u8], at: usize) -> Result<(), Refusal>
 pub fn check_target(target: &[u8]) -> Result<(), Refusal>
     ensures { result ≡ target_rules target.now }
 {
-    let sized = check_that(target.len() == RECORD, Reason::TargetOrProductMalformed, 0);
-    let Ok(()) = sized else {
-        return sized;
+    let Some(bytes) = target.as_array() else {
+        return refuse(Reason::TargetOrProductMalformed, 0);
     };
-    let checked = check_record(target, 0);
-    let Ok(()) = checked else {
-        return as_target(checked);
+    let Err(refusal) = check_record(bytes, 0) else {
+        return Ok(());
     };
-    Ok(())
+    refuse(Reason::TargetOrProductMalformed, refusal.place)
 }
 
-// A refusal of a record as refusal 6, at the same place.
-fn as_target(checked: Result<(), Refusal>) -> Result<(), Refusal>
-    ensures { result ≡ as_six checked }
-{
-    match checked {
-        Ok(()) => Ok(()),
-        Err(refusal) => refuse(Reason::TargetOrProductMalformed, refusal.place),
-    }
-}
-
-// Refusals 4 and 5 on the bytes before the line feed: first the letters.
-fn check_letters(letters: &[u8], at: usize) -> Result<(), Refusal>
-    requires size { length letters.now ≤ 64 }
-    requires place { at ≤ 4096 }
-    ensures { result ≡ letters_rule letters.now at }
-{
-    for (i, &b) in letters.iter().enumerate() {
-        if !is_letter(b) {
-            return check_stops(&letters[i..], at + i);
-        }
-    }
-    Ok(())
-}
-
-// Then the full stops: refusal 5 at the first byte after them, unless 4 goes before it.
-fn check_stops(bytes: &[u8], at: usize) -> Result<(), Refusal>
-    requires size { length bytes.now ≤ 64 }
-    requires place { at ≤ 8192 }
-    ensures { result ≡ stops_rule bytes.now at }
-{
-    for (i, &b) in bytes.iter().enumerate() {
-        let ordered = check_that(b == STOP, Reason::LetterAfterStop, at + i);
-        let Ok(()) = ordered else {
-            return check_rest(&bytes[i..], at + i, ordered);
-        };
-    }
-    Ok(())
-}
-
-// What comes after the full stops breaks a rule: 4 where a byte is neither a letter nor a full stop, or else 5 at the first.
-fn check_rest(bytes: &[u8], at: usize, ordered: Result<(), Refusal>) -> Result<(), Refusal>
-    requires size_and_place { (length bytes.now ≤ 64) × (at ≤ 16384) }
-    requires begins_with_no_stop { (get_or bytes.now 0 0 ≡ 46 → ⊥) × (0 < length bytes.now) }
-    requires refusal_5 { ordered ≡ refusal Reason.LetterAfterStop at }
-    ensures { result ≡ stops_rule bytes.now at }
-{
-    let checked = check_bytes(bytes, at);
-    let Ok(()) = checked else {
-        return checked;
-    };
-    ordered
-}
-
-// Refusal 4: every byte is a letter or a full stop.
-fn check_bytes(bytes: &[u8], at: usize) -> Result<(), Refusal>
-    requires size { length bytes.now ≤ 64 }
-    requires place { at ≤ 16384 }
-    ensures { result ≡ byte_rule bytes.now at }
-{
-    for (i, &b) in bytes.iter().enumerate() {
-        let checked = check_that(is_letter_or_stop(b), Reason::NeitherLetterNorStop, at + i);
-        let Ok(()) = checked else {
-            return checked;
-        };
-    }
-    Ok(())
-}
-
-// The length of the word in a record.
-pub fn word_length(bytes: &[u8]) -> usize
+// The record that a target or a product is, where refusal 6 has been tested.
+pub fn as_record(bytes: &[u8]) -> &[u8; 64]
     requires { length bytes.now ≡ 64 }
-    ensures short { result ≤ 63 }
-    ensures word { take result bytes.now ≡ word_of bytes.now }
+    ensures { result.now ≡ bytes.now }
 {
-    for i in 0..63 {
-        if bytes[i] == STOP {
-            return i;
-        }
+    bytes.as_array().unwrap()
+}
+
+// Refusals 4 and 5 on the bytes before the line feed: letters, and then full stops. At the first byte that breaks this order 5 is refused,
+// unless 4 goes before it, where some later byte is neither.
+fn check_letters(bytes: &[u8], at: usize) -> Result<(), Refusal>
+    requires size { length bytes.now ≤ 64 }
+    requires place { at ≤ 4096 }
+    ensures { result ≡ letters_rule bytes.now at }
+{
+    let Some(letters) = bytes.iter().position(|b| !is_letter(*b)) else {
+        return Ok(());
+    };
+    let Some(stops) = bytes[letters..].iter().position(|b| *b != STOP) else {
+        return Ok(());
+    };
+    let late = letters + stops;
+    let unknown = bytes[late..].iter().position(|b| !is_letter_or_stop(*b));
+    match unknown {
+        Some(after) => refuse(Reason::NeitherLetterNorStop, at + late + after),
+        None => refuse(Reason::LetterAfterStop, at + late),
     }
-    63
+}
+
+// The word in a record.
+pub fn word_in(bytes: &[u8; 64]) -> &[u8]
+    ensures word { result.now ≡ word_of bytes.now }
+    ensures short { length result.now ≤ 63 }
+{
+    let before = &bytes[..63];
+    match before.iter().position(|b| *b == STOP) {
+        Some(end) => &before[..end],
+        None => before,
+    }
 }
 
 // Writes a word as its record.

@@ -14,7 +14,7 @@ use Rattle.slots.specs.Refusals.{system_rules}
 use Rattle.slots.specs.Systems.{AllShort, freely_reduced_words, slots}
 use Rattle.slots.proofs.Systems.{room_fits}
 use Rattle.moves.specs.Logs.{log_rules, move_at, move_size, moves_in}
-use Rattle.moves.proofs.Logging.{passed_move, read_changed}
+use Rattle.moves.proofs.Logging.{passed_move, move_inside}
 use Rattle.replay.specs.Replay.{directed, fits, place_at, ran_before, replay_rules, replay_tests, replayed, run_rules, turn_rule}
 use Rattle.replay.proofs.Running.{place_inside, turn_length, turn_next}
 use Rattle.records.specs.declared.refusals.Reason.TheVariants.{WordTooLong}
@@ -38,7 +38,7 @@ run_accepts backward S log logged short = each_passes (turn_rule backward S log)
     let before : List (List ℕ) = replayed backward S (ran_before backward (moves_in log) d) in
     let m : Move = directed backward (move_at log place) in
     let named : (move_at log place).changed < length S =
-    read_changed (length S) log place (passed_move (length S) log logged place (place_inside backward (length log / move_size) d h)) refl in
+    move_inside (length S) log place (passed_move (length S) log logged place (place_inside backward (length log / move_size) d h)) in
     let inside : m.changed < length before =
     rw (turn_length log S backward (ran_before backward (moves_in log) d), directed-changed backward (move_at log place)) named in
     must_pass _ WordTooLong (place + 1) (short-fits before m inside (rw (turn_next log S backward d h) at (short (d + 1)))))

@@ -1,6 +1,6 @@
 -- The call replay: its tests one after the other, what they tell once they are passed, and what the call answers.
 -- The words that are run over are those of the system, freely reduced.
-use Prim.Native.Nat.{◌*◌, ◌/◌, ◌≤◌, ℕ}
+use Prim.Native.Nat.{◌*◌, ◌≤◌, ℕ}
 use mathlib.Core.Bool.{Bool}
 use mathlib.Core.List.{List}
 use mathlib.Core.Path.{◌∙◌, ◌≡◌, ap, sym}
@@ -11,8 +11,10 @@ use Rattle.records.specs.declared.answers.Refusal.{Refusal}
 use Rattle.records.proofs.Chains.{fine_first, fine_next, then_failed, then_fine}
 use Rattle.slots.specs.Refusals.{system_rules, word_room}
 use Rattle.slots.specs.Systems.{bytes_of, freely_reduced_words, slots}
+use Rattle.slots.proofs.RoundTrip.{words-length}
 use Rattle.slots.proofs.Systems.{room_enough, system-size}
 use Rattle.moves.specs.Logs.{log_rules, moves_in}
+use Rattle.replay.proofs.Running.{turn_length}
 use Rattle.replay.specs.Replay.{replay_rules, replay_tests, replayed, run_rules}
 use Rattle.std.specs.Prelude.{Err, Ok}
 use Rattle.records.specs.Refusals.{Checked}
@@ -29,11 +31,14 @@ module _ (s log : List ℕ) (room : ℕ) {x : Checked} (e : x ≡ replay_tests s
   pub passed_size : length s ≤ 1024
   passed_size = system-size s (fine_first (system_rules s) _ all_passed)
 
-  pub passed_log : log_rules (length s / 64) log ≡ Ok tt
-  passed_log = fine_first (log_rules (slots s) log) _ rest_passed
+  pub passed_log : (S : List (List ℕ)) → S ≡ freely_reduced_words s → log_rules (length S) log ≡ Ok tt
+  passed_log S same = rw (same, words-length s) (fine_first (log_rules (slots s) log) _ rest_passed)
 
-  pub passed_room : length s / 64 * 64 ≤ room
-  passed_room = room_enough (slots s * 64) room (fine_next (log_rules (slots s) log) _ rest_passed)
+  pub passed_room : (way : Bool) (S T : List (List ℕ)) {y : Checked} → S ≡ freely_reduced_words s → (y ≡ Ok tt → T ≡ replayed way S (moves_in log))
+      → y ≡ Ok tt → length T * 64 ≤ room
+  passed_room way S T same left fine =
+      let count : length T ≡ slots s = ap length (left fine) ∙ turn_length log S way (moves_in log) ∙ ap length same ∙ words-length s in
+      rw count (room_enough (slots s * 64) room (fine_next (log_rules (slots s) log) _ rest_passed))
 
 -- refusals 1 to 10, and then 12
 module _ (s log : List ℕ) (way : Bool) (room : ℕ) where

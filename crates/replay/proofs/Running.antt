@@ -2,12 +2,11 @@
 use Prim.Native.Nat.{◌+◌, ◌-◌, ◌/◌, ◌<◌, ◌≤◌, ℕ}
 use mathlib.Core.Bool.{Bool, false, true}
 use mathlib.Core.List.{List, [], ◌++◌, ◌∷◌}
-use mathlib.Core.Path.{◌∙◌, ◌≡◌, ap, ap₂, refl, sym}
-use native.Mathlib.Nat.{le_antisymm}
+use mathlib.Core.Path.{◌∙◌, ◌≡◌, ap, ap₂, sym}
 use native.Mathlib.Numerals.{add-one}
 use native.Mathlib.Omega.{arith}
 use lib.Dec.{leb}
-use lib.ListN.{drop, drop_of_length-le, length, take}
+use lib.ListN.{drop, get_or, length, take}
 use lib.Seq.{take_all, take-suc}
 use Rattle.words.specs.Alphabet.{bytes}
 use Rattle.words.proofs.Below.{below_at, below-drop, below_length}
@@ -17,20 +16,17 @@ use Rattle.systems.proofs.Undoing.{made_all-length, made_all-snoc, undone_all-le
 use Rattle.records.specs.Refusals.{each_below, must}
 use Rattle.records.specs.declared.answers.Refusal.{Refusal}
 use Rattle.records.proofs.Chains.{each_fail, each_pass, must_passed}
-use Rattle.moves.specs.Logs.{move_at, move_size, moves_in}
+use Rattle.std.specs.Option.{IsSome}
+use Rattle.std.specs.Prelude.{None, Option, Some, is_some}
+use Rattle.std.specs.Simd.{first_chunks}
+use Rattle.moves.specs.Logs.{log_rules, move_at, move_size, moves_in, read_move}
+use Rattle.moves.proofs.Logging.{passed_read}
 use Rattle.replay.specs.Replay.{directed, place_at, ran_before, replayed, run_rules, turn_rule}
 use Rattle.records.specs.declared.refusals.Reason.TheVariants.{WordTooLong}
 use Rattle.std.specs.Prelude.{Err, Ok}
 use Rattle.records.specs.Refusals.{Checked}
 
 -- where the move of a turn stands
-module _ {backward : Bool} (count d : ℕ) where
-  pub place-backward : backward ≡ true → count - 1 - d ≡ place_at backward count d
-  place-backward way = rw way
-
-  pub place-forward : backward ≡ false → d ≡ place_at backward count d
-  place-forward way = rw way
-
 pub place_inside : (backward : Bool) (count d : ℕ) → d < count → place_at backward count d < count
 place_inside true count d h = omega arith
 place_inside false count d h = h
@@ -39,10 +35,6 @@ place_inside false count d h = h
 module _ (log : List ℕ) (S : List (List ℕ)) where
   moves-count : length (moves_in log) ≡ length log / move_size
   moves-count = below_length (move_at log) (length log / move_size)
-
-  pub turn_begin : (backward : Bool) → S ≡ replayed backward S (ran_before backward (moves_in log) 0)
-  turn_begin true = rw (drop_of_length-le (moves_in log) {i = length (moves_in log) - 0} (omega arith))
-  turn_begin false = refl
 
   pub turn_next : (backward : Bool) (d : ℕ) → d < length log / move_size
       → replayed backward S (ran_before backward (moves_in log) (d + 1))
@@ -70,23 +62,44 @@ module _ (log : List ℕ) (S : List (List ℕ)) where
   turn_length true ms = undone_all-length bytes S ms
   turn_length false ms = made_all-length bytes S ms
 
-  module _ (backward : Bool) (d : ℕ) (T : List (List ℕ)) (here : T ≡ replayed backward S (ran_before backward (moves_in log) d)) where
-    -- the move of a turn is read and tried
-    module _ (at : ℕ) (m u : Move) {t : Bool} (place : at ≡ place_at backward (length log / move_size) d) (read : m ≡ move_at log at)
-        (turned : u ≡ directed backward m) (tried : t ≡ leb (length (moved_word bytes T u)) 63) (inside : d < length log / move_size) where
+  module _ (backward : Bool) (d : ℕ) (T : List (List ℕ)) (here : T ≡ replayed backward S (ran_before backward (moves_in log) d))
+      (count : ℕ) (counted : count ≡ length log / move_size) where
+    -- the move of a turn stands in its place of a log that passed its tests
+    module _ (n at : ℕ) (parts : List (List ℕ)) (e : List ℕ) {r : Option Move} (fine : log_rules (length S) log ≡ Ok tt) (slots : n ≡ length T)
+        (cut : parts ≡ first_chunks move_size (length log / move_size) log) (placed : at < count) (read : r ≡ read_move n (get_or parts at e)) where
+      turn_reads : r ≡ Some (move_at log at)
+      turn_reads =
+          let same : n ≡ length S = slots ∙ ap length here ∙ turn_length backward (ran_before backward (moves_in log) d) in
+          read ∙ passed_read n log at parts e (rw same fine) cut (omega (arith, placed, counted))
+
+      pub turn_found : IsSome r
+      turn_found = ap is_some turn_reads
+
+      pub turn_move : (m : Move) → r ≡ Some m → m ≡ move_at log at
+      turn_move m told = ap (λ (o : Option Move). elim o [ None ↦ m | Some u ↦ u ]) (sym told ∙ turn_reads)
+
+    -- it is tried
+    module _ (at : ℕ) (m u : Move) {t : Bool} (place : at ≡ place_at backward count d) (read : m ≡ move_at log at)
+        (turned : u ≡ directed backward m) (tried : t ≡ leb (length (moved_word bytes T u)) 63) (inside : d < count) where
+      turn_place : at ≡ place_at backward (length log / move_size) d
+      turn_place = place ∙ ap (λ (i : ℕ). place_at backward i d) counted
+
+      turn_inside : d < length log / move_size
+      turn_inside = omega (arith, inside, counted)
+
       same_move : u ≡ directed backward (move_at log (place_at backward (length log / move_size) d))
-      same_move = turned ∙ ap (directed backward) (read ∙ ap (move_at log) place)
+      same_move = turned ∙ ap (directed backward) (read ∙ ap (move_at log) turn_place)
 
       turn_told : must t WordTooLong (at + 1) ≡ turn_rule backward S log d
       unfolding turn_rule
       turn_told =
           ap₂ (λ (b : Bool) (i : ℕ). must b WordTooLong (i + 1))
-          (tried ∙ ap₂ (λ (U : List (List ℕ)) (v : Move). leb (length (moved_word bytes U v)) 63) here same_move) place
+          (tried ∙ ap₂ (λ (U : List (List ℕ)) (v : Move). leb (length (moved_word bytes U v)) 63) here same_move) turn_place
 
       module _ {x : Checked} (e : x ≡ must t WordTooLong (at + 1)) where
         module _ (passed : each_below (turn_rule backward S log) d ≡ Ok tt) where
           pub turn_fails : {f : Refusal} → x ≡ Err f → x ≡ run_rules backward S log
-          turn_fails long = each_fail (turn_rule backward S log) d passed (length log / move_size) inside (e ∙ turn_told) long
+          turn_fails long = each_fail (turn_rule backward S log) d passed (length log / move_size) turn_inside (e ∙ turn_told) long
 
           pub turn_passes : x ≡ Ok tt → each_below (turn_rule backward S log) (d + 1) ≡ Ok tt
           turn_passes short = each_pass (turn_rule backward S log) d passed (e ∙ turn_told) short
@@ -94,9 +107,10 @@ module _ (log : List ℕ) (S : List (List ℕ)) where
         pub turn_makes : (T' : List (List ℕ)) → (t ≡ true → T' ≡ made bytes T u) → x ≡ Ok tt
             → T' ≡ replayed backward S (ran_before backward (moves_in log) (d + 1))
         turn_makes T' done short =
-            done (must_passed t WordTooLong (at + 1) e short) ∙ ap₂ (made bytes) here same_move ∙ sym (turn_next backward d inside)
+            done (must_passed t WordTooLong (at + 1) e short) ∙ ap₂ (made bytes) here same_move ∙ sym (turn_next backward d turn_inside)
 
     -- no move is left
-    pub turn_end : length log / move_size ≤ d → d ≤ length log / move_size → T ≡ replayed backward S (moves_in log)
+    pub turn_end : count ≤ d → d ≤ count → T ≡ replayed backward S (moves_in log)
     turn_end over most =
-        here ∙ ap (replayed backward S) (ap (ran_before backward (moves_in log)) (le_antisymm most over) ∙ turn_last backward)
+        let all : d ≡ length log / move_size = omega (arith, counted) in
+        here ∙ ap (replayed backward S) (ap (ran_before backward (moves_in log)) all ∙ turn_last backward)

@@ -1,8 +1,7 @@
 // Replay: a system and a log in, the system after the log's moves out, forward or backward.
 #![tactic(auto)]
 
-ghost use Rattle.std.specs.Prelude.{◌<◌, ◌≡◌};
-ghost use Rattle.slots.specs.Held.{Held, held};
+ghost use Rattle.std.specs.Prelude.{◌<◌, ◌≡◌, Ok, length};
 ghost use Rattle.moves.specs.Logs.{log_rules, moves_in};
 ghost use Rattle.replay.specs.Replay.{place_at, replay_answer, replay_buffer, replay_tests, replayed, run_rules, directed as directed_move};
 
@@ -12,7 +11,7 @@ use records::answers::{Answer, Refusal, check_that};
 use records::record::RECORD;
 use records::refusals::Reason;
 use slots::checks::{check_room, check_system};
-use slots::held::{load, store};
+use slots::system::System;
 use systems::Move;
 
 // Runs a log over a system and writes the words after it into the lent buffer.
@@ -24,15 +23,13 @@ pub fn replay(system: &[u8], log: &[u8], backward: bool, words: &mut [u8]) -> An
     let Ok(()) = checked else {
         return Answer::from(checked);
     };
-    let n = system.len() / RECORD;
-    let mut letters = [0u8; 1024];
-    let mut lengths = [0usize; 16];
-    load(system, &mut letters, &mut lengths);
-    let ran = run(log, backward, n, &mut letters, &mut lengths);
+    let mut words_now = System::new();
+    words_now.load(system);
+    let ran = run(log, backward, &mut words_now);
     let Ok(()) = ran else {
         return Answer::from(ran);
     };
-    store(&letters, &lengths, n, words);
+    words_now.store(words);
     Answer::from(ran)
 }
 
@@ -49,33 +46,21 @@ fn check_replay(system: &[u8], log: &[u8], room: usize) -> Result<(), Refusal>
     let Ok(()) = logged else {
         return logged;
     };
-    let roomy = check_room(n * RECORD, room);
-    let Ok(()) = roomy else {
-        return roomy;
-    };
-    Ok(())
+    check_room(n * RECORD, room)
 }
 
 // Runs the moves of a log, the first one first, or undoes them, the last one first, with refusal 12.
-fn run(
-    log: &[u8],
-    backward: bool,
-    n: usize,
-    letters: &mut [u8],
-    lengths: &mut [usize],
-) -> Result<(), Refusal>
-    requires valid { log_rules n log.now ≡ Ok tt }
-    requires held { Held n letters.old lengths.old }
-    ensures rules { result ≡ run_rules backward (held n letters.old lengths.old) log.now }
-    ensures words { result ≡ Ok tt → held n letters.new lengths.new ≡ replayed backward (held n letters.old lengths.old) (moves_in log.now) }
-    ensures held { Held n letters.new lengths.new }
+fn run(log: &[u8], backward: bool, system: &mut System) -> Result<(), Refusal>
+    requires valid { log_rules (length system.old) log.now ≡ Ok tt }
+    ensures rules { result ≡ run_rules backward system.old log.now }
+    ensures words { result ≡ Ok tt → system.new ≡ replayed backward system.old (moves_in log.now) }
 {
-    let count = log.len() / MOVE;
-    for done in 0..count {
-        let at = place_at(backward, count, done);
-        let m = directed(backward, read_move(n, log, at));
+    let (log_records, _) = log.as_chunks::<MOVE>();
+    for done in 0..log_records.len() {
+        let at = place_at(backward, log_records.len(), done);
+        let m = read_move(system.len(), &log_records[at]).unwrap();
         let fitted = check_that(
-            make_move(letters, lengths, n, m),
+            make_move(system, directed(backward, m)),
             Reason::WordTooLong,
             at + 1,
         );

@@ -9,11 +9,11 @@ use lib.Dec.{leb}
 use lib.ListN.{drop, get_or, length, take}
 use Rattle.std.specs.List.{slice_range}
 use borrow.Author.Tests.{eq-eqb, le-leb, le-ltb, lt-leb, lt-ltb, ne_eqb}
-use Rattle.systems.proofs.Logic.{bool_cases}
 use Rattle.records.specs.Records.{is_stop}
 use Rattle.slots.specs.Systems.{record_at}
 use Rattle.slots.proofs.Systems.{slot_part}
 use Rattle.show.specs.Show.{shown}
+use Rattle.std.proofs.lemmas.Bool.{cases_Bool}
 
 -- show: refusal 14, case by case
 module _ (r g : List ℕ) (slot : ℕ) where
@@ -31,7 +31,7 @@ module _ (r g : List ℕ) (slot : ℕ) where
       unfolding shown
       show_outside (inl low) = rw (eq-eqb _ _ same, eq-eqb _ _ even, lt-leb 97 slot low)
       show_outside (inr high) =
-          elim (bool_cases (leb 97 slot)) [
+          elim (cases_Bool (leb 97 slot)) [
             | inl e ↦ rw (eq-eqb _ _ same, eq-eqb _ _ even, e, lt-leb slot 112 high)
             | inr e ↦ rw (eq-eqb _ _ same, eq-eqb _ _ even, e)
           ]

@@ -13,7 +13,8 @@ use Rattle.records.specs.Refusals.{target_rules}
 use Rattle.records.proofs.RoundTrip.{AllLetters, record_passes, word_back}
 use Rattle.records.proofs.Rules.{letter_between}
 use Rattle.records.proofs.Targets.{target_passes}
-use Rattle.slots.specs.Factors.{factor_byte, factor_of, product_of}
+use Rattle.systems.specs.Factors.{factor_byte, factor_of}
+use Rattle.slots.specs.Factors.{product_of}
 use Rattle.slots.proofs.Systems.{record-length}
 use Rattle.std.specs.Prelude.{Ok}
 

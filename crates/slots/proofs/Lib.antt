@@ -1,7 +1,6 @@
 -- Laws that the proofs of several functions cite.
-pub mod Holding
 pub mod Systems
 pub mod RoundTrip
 pub mod Arrays
 pub mod Factors
-pub mod Alike
+pub mod Pairs

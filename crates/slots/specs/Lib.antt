@@ -1,4 +1,3 @@
 pub mod Systems
 pub mod Refusals
-pub mod Held
 pub mod Factors

@@ -1,7 +1,6 @@
 // The tests of a system of records, refusals 1 to 5, and of the room for its words, refusal 10.
-ghost use Rattle.std.specs.Prelude.{◌*◌, ◌≤◌, ◌≡◌, length};
-ghost use Rattle.records.specs.Refusals.{each_below};
-ghost use Rattle.slots.specs.Refusals.{slot_rules, system_room, system_rules, word_room};
+ghost use Rattle.std.specs.Prelude.{◌≡◌};
+ghost use Rattle.slots.specs.Refusals.{system_room, system_rules, word_room};
 
 use records::answers::{Refusal, check_that};
 use records::record::{RECORD, check_record};
@@ -10,7 +9,7 @@ use records::refusals::Reason;
 // The bytes of 16 records, the most that a system has.
 const LONGEST_SYSTEM: usize = 1024;
 
-// Refusals 2, 1 and 3 to 5.
+// Refusals 2 and 1, then 3 to 5 record by record.
 pub fn check_system(system: &[u8]) -> Result<(), Refusal>
     ensures { result ≡ system_rules system.now }
 {
@@ -18,28 +17,16 @@ pub fn check_system(system: &[u8]) -> Result<(), Refusal>
     let Ok(()) = short else {
         return short;
     };
-    let even = check_that(system.len() % RECORD == 0, Reason::SystemUneven, 0);
+    let (records, rest) = system.as_chunks();
+    let even = check_that(rest.is_empty(), Reason::SystemUneven, 0);
     let Ok(()) = even else {
         return even;
     };
-    check_records(system, system.len() / RECORD)
-}
-
-// Refusals 3 to 5, record by record.
-fn check_records(system: &[u8], n: usize) -> Result<(), Refusal>
-    requires inside { n * 64 ≤ length system.now }
-    requires few { n ≤ 16 }
-    ensures { result ≡ each_below (slot_rules system.now) n }
-{
-    let mut k = 0;
-    while k < n {
-        let at = k * RECORD;
-        let end = at + RECORD;
-        let checked = check_record(&system[at..end], at);
+    for (k, record) in records.iter().enumerate() {
+        let checked = check_record(record, k * RECORD);
         let Ok(()) = checked else {
             return checked;
         };
-        k += 1;
     }
     Ok(())
 }
@@ -60,9 +47,5 @@ pub fn check_system_room(system: &[u8], room: usize) -> Result<(), Refusal>
         return checked;
     };
     let n = system.len() / RECORD;
-    let roomy = check_room(n * RECORD, room);
-    let Ok(()) = roomy else {
-        return roomy;
-    };
-    Ok(())
+    check_room(n * RECORD, room)
 }

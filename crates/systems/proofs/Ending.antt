@@ -21,7 +21,7 @@ use Rattle.systems.specs.Moves.{made}
 use Rattle.systems.specs.declared.Move.{Move}
 use Rattle.systems.specs.Reduced.{AtMostHalf}
 use Rattle.systems.specs.Rules.{shortening, half_end, next, qualifies, run_within}
-use Rattle.systems.proofs.Logic.{bool_cases, option_cases, and_true, and_left, and_right, true_not_false}
+use Rattle.systems.proofs.Logic.{option_cases}
 use Rattle.systems.proofs.Totals.{bit, bit_few, bit_le, bit_less, total, total_each, total_le, total_less, total_twice}
 use Rattle.systems.proofs.Factors.{factor_same, word_nonempty}
 use Rattle.systems.proofs.ProductLaws.{word-slot}
@@ -31,6 +31,7 @@ use Rattle.systems.proofs.Qualifying.{Qualified, qualifies_qualified, qualified_
 use Rattle.systems.proofs.HalfEnds.{Shortest, HalfEndMove, half_end-found, half_end-same-length}
 use Rattle.systems.proofs.HalfTaken.{Taken, taken_made, kept_qualified, same_word_lem, no_longer_like, still_like}
 use Rattle.systems.proofs.Neither.{next-half_end, next_from, run_more}
+use Rattle.std.proofs.lemmas.Bool.{and_from, and_parts, both_ways, cases_Bool}
 
 module _ {A : Type 0} (G : Alphabet A) where
   -- how many letters the words have in all
@@ -57,10 +58,10 @@ module _ {A : Type 0} (G : Alphabet A) (L : AlphabetLaws G) where
       still_qualifying : Qualified G S h → (j : ℕ) → qualifies G T j && eqb (length (word G T j)) (length (word G S h)) ≡ true
           → qualifies G S j && eqb (length (word G S j)) (length (word G S h)) ≡ true
       still_qualifying chosen j e =
-          let q : Qualified G T j = qualifies_qualified G L T j (and_left (qualifies G T j) (eqb (length (word G T j)) (length (word G S h))) e) in
+          let q : Qualified G T j = qualifies_qualified G L T j (and_parts (qualifies G T j) (eqb (length (word G T j)) (length (word G S h))) e).0 in
           let l : length (word G T j) ≡ length (word G S h) =
-          eqb-true _ _ (and_right (qualifies G T j) (eqb (length (word G T j)) (length (word G S h))) e) in
-          and_true (qualifies G S j) (eqb (length (word G S j)) (length (word G S h)))
+          eqb-true _ _ (and_parts (qualifies G T j) (eqb (length (word G T j)) (length (word G S h))) e).1 in
+          and_from (qualifies G S j) (eqb (length (word G S j)) (length (word G S h)))
           (qualified_qualifies G L S j (kept_qualified G L S T h k y t apart same chosen j (omega (arith, l, same j)) q)) (eq-eqb _ _ (sym (same j) ∙ l))
 
       module _ (chosen : Qualified G S h) (long : length T ≡ length S) where
@@ -77,8 +78,8 @@ module _ {A : Type 0} (G : Alphabet A) (L : AlphabetLaws G) where
             let now : ℕ → ℕ = λ j. bit (qualifies G T j && eqb (length (word G T j)) (length (word G S h))) in
             let past : ℕ → ℕ = λ j. bit (qualifies G S j && eqb (length (word G S j)) (length (word G S h))) in
             let here : now h < past h =
-            bit_less _ _ (λ e. lost (and_left (qualifies G T h) (eqb (length (word G T h)) (length (word G S h))) e))
-            (and_true (qualifies G S h) (eqb (length (word G S h)) (length (word G S h))) (qualified_qualifies G L S h chosen)
+            bit_less _ _ (λ e. lost (and_parts (qualifies G T h) (eqb (length (word G T h)) (length (word G S h))) e).0)
+            (and_from (qualifies G S h) (eqb (length (word G S h)) (length (word G S h))) (qualified_qualifies G L S h chosen)
             (eq-eqb (length (word G S h)) (length (word G S h)) refl)) in
             let less = total_less now past (length T) h (omega (arith, long)) here (λ j l. bit_le _ _ (still_qualifying chosen j)) in
             omega (arith, less, ap (total past) long)
@@ -88,20 +89,20 @@ module _ {A : Type 0} (G : Alphabet A) (L : AlphabetLaws G) where
           → (not (eqb x.slot h) ≡ true) × (length (word G S h) / 2 ≤ common_prefix G (inverse G (word G S h)) (value G T x))
       like_told x e =
           let told : leb (length (word G T h) / 2) (common_prefix G (inverse G (word G T h)) (value G T x)) ≡ true =
-          and_right (not (eqb x.slot h)) (leb (length (word G T h) / 2) (common_prefix G (inverse G (word G T h)) (value G T x))) e in (
-            and_left (not (eqb x.slot h)) (leb (length (word G T h) / 2) (common_prefix G (inverse G (word G T h)) (value G T x))) e,
+          (and_parts (not (eqb x.slot h)) (leb (length (word G T h) / 2) (common_prefix G (inverse G (word G T h)) (value G T x))) e).1 in (
+            (and_parts (not (eqb x.slot h)) (leb (length (word G T h) / 2) (common_prefix G (inverse G (word G T h)) (value G T x))) e).0,
             rw (same_word_lem G L S T h k y t apart no_own_inverse freely filled even) at (leb-true (length (word G T h) / 2) (common_prefix G (inverse G (word G T h)) (value G T x)) told),
           )
 
       still_begins : (x : Factor) → begins_like G T h x ≡ true → begins_like G S h x ≡ true
       still_begins x e =
           let told = like_told x e in
-          and_true (not (eqb x.slot h)) (leb (length (word G S h) / 2) (common_prefix G (inverse G (word G S h)) (value G S x))) told.0
+          and_from (not (eqb x.slot h)) (leb (length (word G S h) / 2) (common_prefix G (inverse G (word G S h)) (value G S x))) told.0
           (le-leb _ _ (still_like G L S T h k y t apart no_own_inverse freely filled even x told.1))
 
       changed_began : begins_like G S h y ≡ true
       changed_began =
-          and_true (not (eqb y.slot h)) (leb (length (word G S h) / 2) (common_prefix G (inverse G (word G S h)) (value G S y)))
+          and_from (not (eqb y.slot h)) (leb (length (word G S h) / 2) (common_prefix G (inverse G (word G S h)) (value G S y)))
           (ap not (ne_eqb y.slot h (λ e. apart (sym t.at_k ∙ e)))) (le-leb _ _ t.before)
 
       changed-begins : begins_like G T h y ≡ true → ⊥
@@ -230,14 +231,14 @@ module _ {A : Type 0} (G : Alphabet A) (L : AlphabetLaws G) where
           let T : List (List A) = made G S m in
           let T-freely : FreelyReduced G T = made-freely_reduced G L S m freely in
           let long : length T ≡ length S = made-length G S m in
-          ends_more S m (next-half_end G S nothing ∙ e) (elim (bool_cases (qualifies G T m.other)) [
+          ends_more S m (next-half_end G S nothing ∙ e) (elim (cases_Bool (qualifies G T m.other)) [
             | inl t ↦ again T T-freely no_more_letters (at_least_after least)
                 (no_more-words S T m.other m.changed taken.0 taken.1 found.distinct same_length chosen long)
                 (λ h s. rw (still_chosen t h s)
                 (fewer_beginnings S T m.other m.changed taken.0 taken.1 found.distinct no_own_inverse freely chosen.not_blank chosen.even found.inside long))
             | inr t ↦ fewer T T-freely no_more_letters (at_least_after least)
                 (fewer_words S T m.other m.changed taken.0 taken.1 found.distinct same_length chosen long found.shortest.below
-                (λ u. true_not_false (qualifies G T m.other) u t))
+                (λ u. both_ways (qualifies G T m.other) t u))
           ])
 
       -- the length of the chosen word is the least of all qualifying ones

@@ -1,16 +1,16 @@
 -- Moves keep the subgroup (Nielsen, section 1). A list of moves on a system does what the same list does on the slots' own letters,
 -- each letter then taken for its word; so a product over the words after the moves becomes one over the words before, and back.
-use Prim.Native.Nat.{ℕ, zero, suc, ◌+◌, ◌<◌}
+use Prim.Native.Nat.{ℕ, ◌<◌}
 use mathlib.Core.Path.{◌≡◌, refl, sym, ap, ◌∙◌}
 use mathlib.Core.Bool.{Bool, true, false}
 use mathlib.Core.List.{List, [], ◌∷◌, ◌++◌, map, append-nil}
-use native.Mathlib.Nat.{zero-add, add-zero, add-suc, suc-add}
-use native.Mathlib.Omega.{arith}
-use lib.ListN.{length, get_or, set, length-map, get_or-map}
-use lib.Seq.{ext_get_or}
+use lib.ListN.{length, get_or, length-map, get_or-map}
+use lib.Seq.{ext_get_or, map-set}
 use Rattle.words.specs.Alphabet.{Alphabet}
+use Rattle.words.specs.Below.{below}
 use Rattle.words.specs.Words.{freely_reduce, inverse}
 use Rattle.words.proofs.Alphabet.{AlphabetLaws}
+use Rattle.words.proofs.Below.{below_at, below_length}
 use Rattle.words.proofs.FreeReduction.{freely_reduce_irreducible, freely_reduce-same, freely_reduce_twice, freely_reduce_both, freely_reduce_right}
 use Rattle.words.proofs.Inverse.{freely_reduce-inverse}
 use Rattle.systems.specs.Products.{factors, word, value, spelled, multiplied, Generated, Equivalent, FreelyReduced}
@@ -21,11 +21,6 @@ use Rattle.systems.specs.declared.Move.{Move}
 use Rattle.systems.specs.declared.Form.TheVariants.{After, Before, InverseAfter, InverseBefore}
 use Rattle.systems.proofs.ProductLaws.{multiplied-append, multiplied-inverse, multiplied-freely_reduce, over_words_over, unblanked}
 use Rattle.systems.proofs.Undoing.{Apart, AllApart, back, made_all-length, made_all-undone, undone_all_back}
-
-map-set : {A B : Type 0} (φ : B → A) (l : List B) (i : ℕ) (b : B) → map φ (set l i b) ≡ set (map φ l) i (φ b)
-map-set φ [] i b = refl
-map-set φ (x ∷ l) zero b = refl
-map-set φ (x ∷ l) (suc i) b = ap (◌∷◌ (φ x)) (map-set φ l i b)
 
 -- a homomorphism: a map of words that goes with products, inverses and free reduction
 record Homomorphism {A B : Type 0} (H : Alphabet B) (G : Alphabet A) (φ : List B → List A) : Type 0 where
@@ -70,28 +65,15 @@ module _ {A B : Type 0} (H : Alphabet B) (G : Alphabet A) (L : AlphabetLaws G) (
 abbrev pub slot_letter : ℕ → List Factor
 slot_letter k = record { slot = k; inverted = false } ∷ []
 
--- the slots from i on, n of them, each with its own letter
-abbrev slot_letters_from : ℕ → ℕ → List (List Factor)
-slot_letters_from i zero = []
-slot_letters_from i (suc n) = slot_letter i ∷ slot_letters_from (suc i) n
-
+-- the first n slots, each with its own letter
 abbrev pub slot_letters : ℕ → List (List Factor)
-slot_letters n = slot_letters_from 0 n
-
-slot_letters_from_length : (i n : ℕ) → length (slot_letters_from i n) ≡ n
-slot_letters_from_length i zero = refl
-slot_letters_from_length i (suc n) = ap suc (slot_letters_from_length (suc i) n)
-
-slot_letters_from_word : (i n k : ℕ) → k < n → word factors (slot_letters_from i n) k ≡ slot_letter (i + k)
-slot_letters_from_word i zero k h = absurd (omega arith)
-slot_letters_from_word i (suc n) zero h = rw add-zero
-slot_letters_from_word i (suc n) (suc k) h = rw (add-suc, ← suc-add) (slot_letters_from_word (suc i) n k (omega arith))
+slot_letters n = below slot_letter n
 
 pub slot_letters_length : (n : ℕ) → length (slot_letters n) ≡ n
-slot_letters_length n = slot_letters_from_length 0 n
+slot_letters_length n = below_length slot_letter n
 
 pub slot_letters_word : (n k : ℕ) → k < n → word factors (slot_letters n) k ≡ slot_letter k
-slot_letters_word n k h = rw zero-add at (slot_letters_from_word 0 n k h)
+slot_letters_word n k h = below_at slot_letter n k [] h
 
 -- a product over the words after a list of moves, as one over the words before it: each letter becomes what the moves have made of it
 abbrev pub before : ℕ → List Move → List Factor → List Factor

@@ -15,7 +15,7 @@ use Rattle.words.proofs.Inverse.{inverse_twice, inverse-length, inverse_irreduci
 use Rattle.systems.specs.Products.{factors, word, value, NotBlank}
 use Rattle.systems.specs.declared.Factor.{Factor}
 use Rattle.systems.specs.Reduced.{size}
-use Rattle.systems.proofs.Logic.{and_left, and_right}
+use Rattle.std.proofs.lemmas.Bool.{and_parts}
 
 -- a word is empty or not
 pub empty? : {A : Type 0} (w : List A) → Dec (w ≡ [])
@@ -51,7 +51,7 @@ factor_laws =
       same_sound = λ f g e.
           let slots = eqb f.slot g.slot in
           let signs = beq f.inverted g.inverted in
-          factor_same f g (eqb-true _ _ (and_left slots signs e)) (beq_sound _ _ (and_right slots signs e));
+          factor_same f g (eqb-true _ _ (and_parts slots signs e).0) (beq_sound _ _ (and_parts slots signs e).1);
       same_refl = λ f. rw (eq-eqb f.slot f.slot refl) (beq_refl f.inverted);
     }
 

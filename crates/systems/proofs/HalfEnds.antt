@@ -23,12 +23,14 @@ use Rattle.systems.specs.declared.Move.{Move}
 use Rattle.systems.specs.declared.Form.TheVariants.{Before, InverseAfter}
 use Rattle.systems.specs.Reduced.{AtMostHalf, MiddleKept}
 use Rattle.systems.specs.Rules.{first, any_below, second_half, begins, ends, qualifies, shortest_below, try_half, half_end}
-use Rattle.systems.proofs.Logic.{bool_cases, option_cases, some_not-none, true_not_false, unless_some, else_some, given_some}
+use Rattle.std.proofs.lemmas.Option.{cond_some}
+use Rattle.systems.proofs.Logic.{option_cases, some_not-none, unless_some, else_some}
 use Rattle.systems.proofs.Searching.{first_some, first_found, first_exists, any_nowhere, any_each}
 use Rattle.systems.proofs.Factors.{word_nonempty}
 use Rattle.systems.proofs.Halves.{begins_back_half}
 use Rattle.systems.proofs.Shortening.{Allowed, formed-length, seam_le_changed, half_keeps}
 use Rattle.systems.proofs.Qualifying.{Qualified, qualifies_qualified, none-qualifies, beginning_inside}
+use Rattle.std.proofs.lemmas.Bool.{both_ways, cases_Bool}
 
 module _ {A : Type 0} (G : Alphabet A) where
   -- "the shortest qualifying word, lowest slot on a tie" among the slots below n
@@ -90,7 +92,7 @@ module _ {A : Type 0} (G : Alphabet A) (L : AlphabetLaws G) where
         chosen = r.2.chosen;
         least = λ k l t. elim (dec_lt k n) [
           | yes p ↦ r.2.least k p t
-          | no p ↦ let q : n ≡ k = omega arith in absurd (true_not_false (qualifies G S k) t (rw q at e))
+          | no p ↦ let q : n ≡ k = omega arith in absurd (both_ways (qualifies G S k) (rw q at e) t)
         ];
         lowest = r.2.lowest;
       },
@@ -114,7 +116,7 @@ module _ {A : Type 0} (G : Alphabet A) (L : AlphabetLaws G) where
     )
 
     sought_more : (n : ℕ) → qualifies G S n ≡ true → Sought n → Sought (suc n)
-    sought_more n e (inl d) = sought_new n (shortest_start n e d.0) e (λ k l t. absurd (true_not_false (qualifies G S k) t (d.1 k l)))
+    sought_more n e (inl d) = sought_new n (shortest_start n e d.0) e (λ k l t. absurd (both_ways (qualifies G S k) (d.1 k l) t))
     sought_more n e (inr r) = elim (dec_lt (length (word G S n)) (length (word G S r.0))) [
       | yes l ↦ sought_new n (shortest_better n r.0 e r.1 l) e (λ k p t. omega (arith, r.2.least k p t))
       | no l ↦ inr (
@@ -134,7 +136,7 @@ module _ {A : Type 0} (G : Alphabet A) (L : AlphabetLaws G) where
 
     sought : (n : ℕ) → Sought n
     sought zero = inl (refl, λ k l. absurd (omega arith))
-    sought (suc n) = elim (bool_cases (qualifies G S n)) [
+    sought (suc n) = elim (cases_Bool (qualifies G S n)) [
       | inl t ↦ sought_more n t (sought n)
       | inr t ↦ sought_skip n t (sought n)
     ]
@@ -145,7 +147,7 @@ module _ {A : Type 0} (G : Alphabet A) (L : AlphabetLaws G) where
       | inl d ↦ (λ e. d.1, λ f. d.0)
       | inr r ↦ (
         λ e. absurd (some_not-none (shortest_below G S n) r.0 r.1 e),
-        λ f. absurd (true_not_false (qualifies G S r.0) r.2.chosen (f r.0 r.2.below)),
+        λ f. absurd (both_ways (qualifies G S r.0) (f r.0 r.2.below) r.2.chosen),
       )
     ]
 
@@ -187,7 +189,7 @@ module _ {A : Type 0} (G : Alphabet A) (L : AlphabetLaws G) where
         let differ : k ≡ h → ⊥ = eqb-false k h apart.0 in
         elim (else_some back four (cond front (Some one) None) m apart.1) [
           | inl t ↦ (differ, InverseAfter, t.1, at_end t.0)
-          | inr r ↦ let t = given_some front one m r.1 in (differ, Before, t.1, at_beginning r.0 t.0)
+          | inr r ↦ let t = cond_some front one m r.1 in (differ, Before, sym t.1, at_beginning r.0 t.0)
         ]
 
     pub half_end_unchosen : shortest_below G S (length S) ≡ None → half_end G S ≡ None
@@ -207,7 +209,7 @@ module _ {A : Type 0} (G : Alphabet A) (L : AlphabetLaws G) where
         → (ends G (second_half G (word G S h)) (word G S k) ≡ true) ⊎ (begins G (inverse G (second_half G (word G S h))) (word G S k) ≡ true)
         → (m : Move) × (try_half G S h k ≡ Some m)
     half_exists h k n (inl e) = (record { changed = k; form = InverseAfter; other = h }, half_at_end h k n e)
-    half_exists h k n (inr d) = elim (bool_cases (ends G (second_half G (word G S h)) (word G S k))) [
+    half_exists h k n (inr d) = elim (cases_Bool (ends G (second_half G (word G S h)) (word G S k))) [
       | inl e ↦ (record { changed = k; form = InverseAfter; other = h }, half_at_end h k n e)
       | inr e ↦ (record { changed = k; form = Before; other = h }, half_at_beginning h k n e d)
     ]

@@ -18,23 +18,25 @@ use Rattle.words.proofs.Alphabet.{AlphabetLaws, same?, same_no, differ, flip_inj
 use Rattle.words.proofs.FreeReduction.{irreducible_next, freely_reduce-same}
 use Rattle.words.proofs.Inverse.{inverse-length, inverse_irreducible}
 use Rattle.words.proofs.Cancellation.{cancellation_le_left, cancellation_inverses, common_prefix_le_left, common_prefix_comm, common_prefix_self, cancellation-inverse_left, cancellation-inverse_right, length-cancellation}
-use Rattle.systems.specs.Products.{factors, value, multiplied, FreelyReducedOver, FreelyReduced, NotBlank}
+use Rattle.systems.specs.Products.{factors, value, multiplied, FreelyReducedOver, FreelyReduced, NotBlank, word}
 use Rattle.systems.specs.declared.Factor.{Factor}
 use Rattle.systems.specs.Reduced.{cancellation_of, size, Reduced}
 use Rattle.systems.specs.Rules.{first, begins, ends, first_half, second_half}
 use Rattle.systems.specs.Factoring.{either_of, big_end, ends_other, half_start, leading}
-use Rattle.systems.proofs.Logic.{option_cases, and_left, and_right, all_four, four_all, or_either, nonzero, given_some, given-none, else_some, else_none}
+use Rattle.std.proofs.lemmas.Option.{cond_some}
+use Rattle.systems.proofs.Logic.{option_cases, all_four, four_all, nonzero, given-none, else_some, else_none}
 use Rattle.systems.proofs.Searching.{first-each, first_some, any_found, any_where}
 use Rattle.systems.proofs.Factors.{factor_laws, value-flip, value-length, value_irreducible, not_blank_size, size_not_blank}
 use Rattle.systems.proofs.ProductLaws.{word-slot}
 use Rattle.systems.proofs.ProductLemma.{not_turn, cancellation-half, product-cancellation, product-rest}
 use Rattle.systems.proofs.Halves.{begins-half, begins_back_half}
+use Rattle.std.proofs.lemmas.Bool.{and_parts, or_cases}
 
 -- of two factors tried in turn, the one found passed its test
 either_found : (a b : Bool) (f g x : Factor) → cond a (Some f) (cond b (Some g) None) ≡ Some x → ((a ≡ true) × (x ≡ f)) ⊎ ((b ≡ true) × (x ≡ g))
 either_found a b f g x e = elim (else_some a f (cond b (Some g) None) x e) [
   | inl r ↦ inl r
-  | inr r ↦ inr (given_some b g x r.1)
+  | inr r ↦ let t = cond_some b g x r.1 in inr (t.0, sym t.1)
 ]
 
 either_missed : (a b : Bool) (f g : Factor) → ◌≡◌ {A = Option Factor} (cond a (Some f) (cond b (Some g) None)) None → (a ≡ false) × (b ≡ false)
@@ -67,7 +69,7 @@ module _ {A : Type 0} (G : Alphabet A) (L : AlphabetLaws G) where
     other-found : (x : Factor) (k : ℕ) → ends_other G S x k ≡ true
         → (v : Factor) × (v ≡ x → ⊥) × (ends G (second_half G (value G S x)) (value G S v) ≡ true)
     other-found x k e =
-        elim (or_either (not (factors.same plain x) && ends G (second_half G (value G S x)) (value G S plain)) _ e) [
+        elim (or_cases (not (factors.same plain x) && ends G (second_half G (value G S x)) (value G S plain)) _ e) [
           | inl p ↦ one plain p
           | inr p ↦ one turned p
         ]
@@ -83,7 +85,7 @@ module _ {A : Type 0} (G : Alphabet A) (L : AlphabetLaws G) where
         one v e =
             let s : Bool = factors.same v x in
             let t : Bool = ends G (second_half G (value G S x)) (value G S v) in
-            (v, differ factors factor_laws v x (not-true s (and_left (not s) t e)), and_right (not s) t e)
+            (v, differ factors factor_laws v x (not-true s (and_parts (not s) t e).0), (and_parts (not s) t e).1)
 
     other_at : (x v : Factor) → (v ≡ x → ⊥) → ends G (second_half G (value G S x)) (value G S v) ≡ true → ends_other G S x v.slot ≡ true
     other_at x v n h = go v.inverted (same_no factors factor_laws v x n) h
@@ -161,10 +163,10 @@ module _ {A : Type 0} (G : Alphabet A) (L : AlphabetLaws G) where
     ]
 
     -- so that the word does not get longer when it is taken off
-    pub leading_length : (w : List A) (x : Factor) → FreelyReduced G S → Irreducible G w → leading G S w ≡ Some x
+    pub leading_length : (w : List A) (x : Factor) → Irreducible G (word G S x.slot) → Irreducible G w → leading G S w ≡ Some x
         → length (freely_reduce G (inverse G (value G S x) ++ w)) ≤ length w
     leading_length w x freely h e =
-        let i : Irreducible G (inverse G (value G S x)) = inverse_irreducible G L (value G S x) (value_irreducible G L S x (freely x.slot)) in
+        let i : Irreducible G (inverse G (value G S x)) = inverse_irreducible G L (value G S x) (value_irreducible G L S x freely) in
         omega (
           arith,
           leading-half w x e,

@@ -18,11 +18,12 @@ use Rattle.systems.specs.Products.{factors, word, value, FreelyReduced, NotBlank
 use Rattle.systems.specs.declared.Factor.{Factor}
 use Rattle.systems.specs.Reduced.{AtMostHalf, MiddleKept, cancellation_of, size}
 use Rattle.systems.specs.Rules.{any_below, first_half, second_half, begins, elsewhere, begins_elsewhere, qualifies}
-use Rattle.systems.proofs.Logic.{and_true, and_left, and_right, all_four, four_all, nonzero, or_left, or_right, or_either, not_true_false, true_not_false}
+use Rattle.systems.proofs.Logic.{all_four, four_all, nonzero}
 use Rattle.systems.proofs.Searching.{any_found, any_where, any_nowhere, any_each}
 use Rattle.systems.proofs.Factors.{nonempty_word, word_nonempty, same_factor, value-flip, value-length, value_irreducible, not_blank_size, size_not_blank}
 use Rattle.systems.proofs.ProductLaws.{word-slot}
 use Rattle.systems.proofs.Halves.{begins-half, begins_back_half}
+use Rattle.std.proofs.lemmas.Bool.{and_from, and_parts, both_ways, false_from_ne_true, or_cases, or_left, or_right}
 
 module _ {A : Type 0} (G : Alphabet A) where
   -- a factor of another slot than h that begins with the first m letters of w
@@ -48,8 +49,8 @@ module _ {A : Type 0} (G : Alphabet A) (L : AlphabetLaws G) where
         let i : ℕ = at_i.0 in
         let plain : Bool = begins G u (word G S i) in
         let turned : Bool = begins G u (inverse G (word G S i)) in
-        let d : i ≡ h → ⊥ = eqb-false i h (not-true (eqb i h) (and_left (not (eqb i h)) (plain || turned) at_i.2)) in
-        elim (or_either plain turned (and_right (not (eqb i h)) (plain || turned) at_i.2)) [
+        let d : i ≡ h → ⊥ = eqb-false i h (not-true (eqb i h) (and_parts (not (eqb i h)) (plain || turned) at_i.2).0) in
+        elim (or_cases plain turned (and_parts (not (eqb i h)) (plain || turned) at_i.2).1) [
           | inl b ↦ (record { slot = i; inverted = false }, d, b)
           | inr b ↦ (record { slot = i; inverted = true }, d, b)
         ]
@@ -57,7 +58,7 @@ module _ {A : Type 0} (G : Alphabet A) (L : AlphabetLaws G) where
     pub found-elsewhere : (h : ℕ) (u : List A) (x : Factor) → (x.slot ≡ h → ⊥) → x.slot < length S
         → begins G u (value G S x) ≡ true → begins_elsewhere G S h u ≡ true
     found-elsewhere h u x d l b = any_found (elsewhere G S h u) x.slot (length S) l
-        (and_true (not (eqb x.slot h)) (plain || turned) (ap not (ne_eqb x.slot h d)) (either x.inverted b))
+        (and_from (not (eqb x.slot h)) (plain || turned) (ap not (ne_eqb x.slot h d)) (either x.inverted b))
       where
         plain : Bool
         plain = begins G u (word G S x.slot)
@@ -200,9 +201,8 @@ module _ {A : Type 0} (G : Alphabet A) (L : AlphabetLaws G) where
       none-qualifies half = (to, of)
         where
           to : any_below (qualifies G S) (length S) ≡ false → MiddleKept G S
-          to e = unqualified_kept half (λ h q. true_not_false (qualifies G S h) (qualified_qualifies h q)
-              (any_each (qualifies G S) (length S) e h (word-slot G L S h (word_nonempty (word G S h) q.not_blank))))
+          to e = unqualified_kept half (λ h q. both_ways (qualifies G S h) (any_each (qualifies G S) (length S) e h (word-slot G L S h (word_nonempty (word G S h) q.not_blank))) (qualified_qualifies h q))
 
           of : MiddleKept G S → any_below (qualifies G S) (length S) ≡ false
           of middle = any_nowhere (qualifies G S) (length S)
-              (λ h l. not_true_false (qualifies G S h) (λ t. qualified_cancellation h (qualifies_qualified h t) middle))
+              (λ h l. false_from_ne_true (qualifies G S h) (λ t. qualified_cancellation h (qualifies_qualified h t) middle))

@@ -5,11 +5,13 @@ use mathlib.Core.Path.{◌≡◌, refl, sym, ◌∙◌}
 use mathlib.Core.Logic.{inl, inr}
 use mathlib.Core.Bool.{Bool, true, false, true≢false}
 use Rattle.std.specs.Prelude.{None, Option, Some}
+use Rattle.std.proofs.lemmas.Option.{none-some}
 use native.Mathlib.Numerals.{add-one}
 use native.Mathlib.Omega.{arith}
 use native.Mathlib.Decide.{dec_lt}
 use Rattle.systems.specs.Rules.{first, any_below}
-use Rattle.systems.proofs.Logic.{not-none_some, not_true_false, option_cases, or_either, or_false, or_left, or_right, some_not-none, true_not_false}
+use Rattle.systems.proofs.Logic.{not-none_some, option_cases, some_not-none}
+use Rattle.std.proofs.lemmas.Bool.{both_ways, false_from_ne_true, or_cases, or_from, or_left, or_right}
 
 module _ {B : Type 0} (f : ℕ → Option B) where
   -- nothing before n: what f n gives decides
@@ -52,7 +54,7 @@ module _ {B : Type 0} (f : ℕ → Option B) where
 
   -- what is found is given by a number below n, and by none before it
   pub first_some : (n : ℕ) (b : B) → first f n ≡ Some b → (i : ℕ) × (i < n) × (f i ≡ Some b) × ((j : ℕ) → j < i → f j ≡ None)
-  first_some zero b e = let z : ◌≡◌ {A = ℕ} 0 1 = cc in absurd (omega arith)
+  first_some zero b e = absurd (none-some b e)
   first_some (suc n) b e = elim (option_cases (first f n)) [
     | inl d ↦ (n, omega arith, sym (first_next n d) ∙ e, first-each n d)
     | inr r ↦ widen (first_some n b (r.1 ∙ sym (first_kept n r.0 r.1) ∙ e))
@@ -76,7 +78,7 @@ module _ {B : Type 0} (f : ℕ → Option B) where
 
 module _ (f : ℕ → Bool) where
   pub any_more : (n : ℕ) → any_below f n ≡ false → f n ≡ false → any_below f (suc n) ≡ false
-  any_more n e d = or_false (any_below f n) (f n) e d
+  any_more n e d = or_from (any_below f n) (f n) e d
 
   pub any_more-one : (n : ℕ) → any_below f n ≡ false → f n ≡ false → any_below f (n + 1) ≡ false
   any_more-one n e d = rw add-one (any_more n e d)
@@ -90,7 +92,7 @@ module _ (f : ℕ → Bool) where
 
   pub any_where : (n : ℕ) → any_below f n ≡ true → (i : ℕ) × (i < n) × (f i ≡ true)
   any_where zero e = absurd (true≢false (sym e))
-  any_where (suc n) e = elim (or_either (any_below f n) (f n) e) [
+  any_where (suc n) e = elim (or_cases (any_below f n) (f n) e) [
     | inl d ↦ widen (any_where n d)
     | inr d ↦ (n, omega arith, d)
   ]
@@ -100,7 +102,7 @@ module _ (f : ℕ → Bool) where
 
   -- the test fails everywhere below n
   pub any_each : (n : ℕ) → any_below f n ≡ false → (i : ℕ) → i < n → f i ≡ false
-  any_each n e i h = not_true_false (f i) (λ t. true_not_false (any_below f n) (any_found i n h t) e)
+  any_each n e i h = false_from_ne_true (f i) (λ t. both_ways (any_below f n) e (any_found i n h t))
 
   pub any_nowhere : (n : ℕ) → ((i : ℕ) → i < n → f i ≡ false) → any_below f n ≡ false
   any_nowhere zero h = refl

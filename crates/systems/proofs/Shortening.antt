@@ -24,7 +24,8 @@ use Rattle.systems.specs.declared.Move.{Move}
 use Rattle.systems.specs.declared.Form.TheVariants.{After, Before, InverseAfter, InverseBefore}
 use Rattle.systems.specs.Reduced.{AtMostHalf, cancellation_of, size}
 use Rattle.systems.specs.Rules.{first, form_at, try_form, try_other, try_changed, shortening}
-use Rattle.systems.proofs.Logic.{option_cases, given_some, given-none, unless_some}
+use Rattle.std.proofs.lemmas.Option.{cond_some}
+use Rattle.systems.proofs.Logic.{option_cases, given-none, unless_some}
 use Rattle.systems.proofs.Searching.{first-each, first_some, first_found}
 use Rattle.systems.proofs.Factors.{word_nonempty, value-flip, value-length}
 use Rattle.systems.proofs.ProductLaws.{word-slot}
@@ -174,8 +175,8 @@ module _ {A : Type 0} (G : Alphabet A) (L : AlphabetLaws G) where
     try_found k i form m e =
         let new : ℕ = length (freely_reduce G (formed G form (word G S i) (word G S k))) in
         let old : ℕ = length (word G S k) in
-        let found = given_some (ltb new old) (record { changed = k; form = form; other = i }) m e in
-        (ltb-true new old found.0, found.1)
+        let found = cond_some (ltb new old) (record { changed = k; form = form; other = i }) m e in
+        (ltb-true new old found.0, sym found.1)
 
     pub try_missed : (k i : ℕ) (form : Form) → try_form G S k i form ≡ None
         → length (word G S k) ≤ length (freely_reduce G (formed G form (word G S i) (word G S k)))

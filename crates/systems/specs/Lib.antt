@@ -4,3 +4,4 @@ pub mod Reduced
 pub mod Rules
 pub mod Factoring
 pub mod Rank
+pub mod Factors

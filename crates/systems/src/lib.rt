@@ -1,7 +1,8 @@
 // Systems of words: definitions and theorems on products, moves and Nielsen-reduced systems, and the factors and moves that they speak of.
 #![tactic(auto)]
 
-ghost use Rattle.std.specs.Prelude.{◌≡◌};
+ghost use Rattle.std.specs.Prelude.{◌<◌, ◌≡◌};
+ghost use Rattle.systems.specs.Factors.{factor_byte, factor_of};
 ghost use Rattle.systems.specs.Moves.{form_digit, undo, undoing};
 ghost use Rattle.systems.specs.Rules.{form_at};
 
@@ -12,13 +13,13 @@ pub struct Factor {
     pub inverted: bool,
 }
 
-// The four forms of a move, 1 to 4: the other slot's word, or its inverse, stands before the changed slot's word or after it.
+// The four forms of a move, each with its digit, 1 to 4: the other slot's word, or its inverse, stands before the changed slot's word or after it.
 #[derive(Clone, Copy, Debug, PartialEq, Eq)]
 pub enum Form {
-    Before,
-    InverseBefore,
-    After,
-    InverseAfter,
+    Before = 49,
+    InverseBefore = 50,
+    After = 51,
+    InverseAfter = 52,
 }
 
 // A move: the changed slot, the form and the other slot.
@@ -27,6 +28,31 @@ pub struct Move {
     pub changed: usize,
     pub form: Form,
     pub other: usize,
+}
+
+impl Factor {
+    // The letter of the factor in a product: the slot's letter for its word, the capital for the inverse.
+    pub fn letter(self) -> u8
+        requires { self.slot < 16 }
+        ensures { result ≡ factor_byte self }
+    {
+        let first = if self.inverted { b'A' } else { b'a' };
+        first + self.slot as u8
+    }
+}
+
+// The factor that a letter of a product names.
+impl From<u8> for Factor {
+    ghost from_gives = { λ letter factor. factor ≡ factor_of letter };
+
+    fn from(letter: u8) -> Factor {
+        let inverted = letter < b'a';
+        let first = if inverted { b'A' } else { b'a' };
+        Factor {
+            slot: letter.saturating_sub(first) as usize,
+            inverted,
+        }
+    }
 }
 
 impl Form {
@@ -81,11 +107,6 @@ impl From<Form> for u8 {
     ghost from_gives = { λ form digit. digit ≡ form_digit form };
 
     fn from(form: Form) -> u8 {
-        match form {
-            Form::Before => b'1',
-            Form::InverseBefore => b'2',
-            Form::After => b'3',
-            Form::InverseAfter => b'4',
-        }
+        form as u8
     }
 }

@@ -17,7 +17,8 @@ pub fn tidy(system: &[u8], words: &mut [u8]) -> Answer
     let Ok(()) = checked else {
         return Answer::from(checked);
     };
-    let tidied = System::load(system);
+    let mut tidied = System::new();
+    tidied.load(system);
     tidied.store(words);
     Answer::from(checked)
 }

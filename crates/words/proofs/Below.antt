@@ -1,7 +1,7 @@
 -- Laws of a list of numbered parts: its length, each of its parts, one part more, and what makes two such lists the same.
 use Prim.Native.Nat.{ℕ, zero, suc, ◌+◌, ◌<◌}
-use mathlib.Core.Path.{◌≡◌, refl, ap, ap₂, ◌∙◌}
-use mathlib.Core.List.{List, [], ◌∷◌, ◌++◌, map}
+use mathlib.Core.Path.{◌≡◌, refl, ap, ◌∙◌}
+use mathlib.Core.List.{[], ◌∷◌}
 use native.Mathlib.Omega.{arith}
 use native.Mathlib.Numerals.{add-one}
 use native.Mathlib.Decide.{dec_lt}
@@ -28,12 +28,3 @@ module _ {B : Type 0} (f : ℕ → B) where
       rw (add-one k)
       (drop-cons (below f n) k (f k) (rw (below_length n) h)
       ∙ ap (λ (b : B). b ∷ drop (suc k) (below f n)) (below_at n k (f k) h))
-
-  pub below-same : (g : ℕ → B) (n : ℕ) → ((k : ℕ) → k < n → f k ≡ g k) → below f n ≡ below g n
-  below-same g zero same = refl
-  below-same g (suc n) same =
-      ap₂ (λ (l : List B) (b : B). l ++ (b ∷ [])) (below-same g n (λ k h. same k (omega arith))) (same n (omega arith))
-
-pub map_last : {B C : Type 0} (g : B → C) (l : List B) (b : B) → map g (l ++ (b ∷ [])) ≡ map g l ++ (g b ∷ [])
-map_last g [] b = refl
-map_last g (c ∷ l) b = ap (◌∷◌ (g c)) (map_last g l b)

@@ -1,18 +1,13 @@
--- Buffers that a loop reads or writes one byte at a time.
+-- Buffers that are read or written from a place on.
 use Prim.Native.Nat.{◌+◌, ◌-◌, ◌<◌, ◌≤◌, suc, zero, ℕ}
 use mathlib.Core.List.{List, [], ◌++◌, ◌∷◌, append_assoc, append-nil}
-use mathlib.Core.Path.{◌≡◌, ap, refl}
+use mathlib.Core.Path.{◌≡◌, ap}
 use native.Mathlib.Nat.{suc-add, zero-add}
 use native.Mathlib.Numerals.{add-one}
 use native.Mathlib.Omega.{arith}
-use lib.ListN.{drop, drop_of_length-le, get_or, length, length-append, length-drop, length-take, set, take}
-use lib.Seq.{drop-append_seam, drop-cons, drop-drop, drop-length, drop-nil, set_split, take_all, take-append_seam, take_at}
-use borrow.Rule.Slice.PartMut.{put_mid}
+use lib.ListN.{drop, drop_of_length-le, length, length-append, set, take}
+use lib.Seq.{drop-append_seam, drop-drop, drop-nil, set_split, take_all, take-append_seam, take_at}
 use Rattle.words.specs.Buffers.{written, written_at}
-
--- what is left of a list from a place within it: the byte there, and the rest
-pub drop_here : (s : List ℕ) (i : ℕ) → i < length s → drop i s ≡ get_or s i 0 ∷ drop (i + 1) s
-drop_here s i h = rw (add-one) (drop-cons s i 0 h)
 
 -- the first n letters, as a part that is handed on
 pub front_part : (s : List ℕ) (n : ℕ) → take (n - 0) s ≡ take n s
@@ -20,23 +15,9 @@ front_part s n =
     let same : n - 0 ≡ n = omega arith in
     ap (λ (k : ℕ). take k s) same
 
-pub front_short : (s : List ℕ) (n most : ℕ) → n ≤ most → length (take (n - 0) s) ≤ most
-front_short s n most h = rw (length-take (n - 0) s) (omega arith)
-
--- and what is left from a place on
-pub rest_part : (s : List ℕ) (k : ℕ) → take (length s - k) (drop k s) ≡ drop k s
-rest_part s k = take_all (length s - k) (drop k s) (omega (arith, length-drop k s))
-
 -- what was written at the beginning of a lent buffer
 pub written-take : (new buffer : List ℕ) (n : ℕ) → length new ≡ n → take n (written new buffer) ≡ new
 written-take new buffer n e = take_at new (drop (length new) buffer) n e
-
--- what was written at the beginning of the rest of a buffer
-pub written-rest : (bytes buffer y : List ℕ) (at : ℕ) → y ≡ written bytes (take (length buffer - at) (drop at buffer))
-    → put_mid at (length buffer - at) buffer y ≡ written_at at bytes buffer
-written-rest bytes buffer y at e =
-    let none : drop (length buffer - at) (drop at buffer) ≡ [] = rw (← length-drop at buffer) (drop-length (drop at buffer)) in
-    rw (none, append-nil, e, rest_part buffer at) refl
 
 -- bytes written at a place: one, and some after others
 pub byte_written : (buffer : List ℕ) (at b : ℕ) → at < length buffer → set buffer at b ≡ written_at at (b ∷ []) buffer

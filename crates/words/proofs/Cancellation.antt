@@ -67,7 +67,7 @@ module _ {A : Type 0} (G : Alphabet A) (L : AlphabetLaws G) where
   pub common_prefix-most : (n : ℕ) (u v : List A) → n ≤ length u → take n u ≡ take n v → n ≤ common_prefix G u v
   common_prefix-most zero u v h e = omega arith
   common_prefix-most (suc n) [] v h e = absurd (omega arith)
-  common_prefix-most (suc n) (x ∷ u) [] h e = let z : ◌≡◌ {A = ℕ} 0 1 = cc in absurd (omega arith)
+  common_prefix-most (suc n) (x ∷ u) [] h e = absurd (omega (arith, ap length e))
   common_prefix-most (suc n) (x ∷ u) (y ∷ v) h e =
       let p : x ≡ y = cc in
       let q : take n u ≡ take n v = cc in

@@ -1,20 +1,18 @@
 -- Joining words at the beginning of a buffer: a word or its inverse is put after what stands there, less what cancels.
 use Prim.Native.Nat.{◌+◌, ◌-◌, ◌≤◌, suc, ℕ}
-use mathlib.Core.Bool.{Bool, true, false}
+use mathlib.Core.Bool.{Bool, true}
 use mathlib.Core.List.{List, [], ◌++◌, ◌∷◌, append_assoc, append-nil}
 use mathlib.Core.Path.{◌∙◌, ◌≡◌, ap, ap₂, sym}
 use native.Mathlib.Omega.{arith}
-use lib.ListN.{drop, length, length-append, length-drop, set, take, take-append-drop}
-use lib.Seq.{drop-append_seam, drop-length, length-take-le, take-append-add, take-append_seam, take-length, take-suc-set, take-take}
-use borrow.Rule.Slice.PartMut.{put_mid}
+use lib.ListN.{drop, length, length-append, set, take, take-append-drop}
+use lib.Seq.{drop-append_seam, drop-length, length-take-le, take-append_seam, take-length, take-suc-set, take-take}
 use Rattle.words.specs.Alphabet.{bytes, flip_byte}
-use Rattle.words.specs.Buffers.{written}
 use Rattle.words.specs.Words.{cancellation, common_prefix, freely_reduce, inverse, signed}
 use Rattle.words.proofs.Alphabet.{byte_laws}
-use Rattle.words.proofs.Buffers.{front_part, rest_part}
+use Rattle.words.proofs.Buffers.{front_part}
 use Rattle.words.proofs.Cancellation.{cancellation-common_prefix, freely_reduce-cancellation}
 use Rattle.words.proofs.Inverse.{drop-inverse, freely_reduce-inverse, inverse-cons, inverse-nil, signed_irreducible}
-use Rattle.words.proofs.FreeReduction.{freely_reduce_left, freely_reduce_twice, irreducible_of_same}
+use Rattle.words.proofs.FreeReduction.{freely_reduce_twice, irreducible_of_same}
 
 -- an inverse put after the first n letters, from its last letter to its first: i letters are there, and the rest of the word is to come
 module _ (s w rest : List ℕ) (n i : ℕ) (whole : rest ≡ w) (first : i ≡ 0) where
@@ -60,20 +58,6 @@ module _ (s₀ s w rest rest' : List ℕ) (n i x : ℕ) (last : rest ≡ rest' +
 
 -- what is left of a word or its inverse is put there
 module _ (b : Bool) (s w : List ℕ) (n c : ℕ) (inside : c ≤ length w) (room : n + length w ≤ length s + c) where
-  pub plain-rest : (y : List ℕ) → b ≡ false → y ≡ written (take (length w - c) (drop c w)) (take (length s - n) (drop n s))
-      → take (n + length w - c) (put_mid n (length s - n) s y) ≡ take n s ++ drop c (signed bytes b w)
-  plain-rest y plain e =
-      let long : length (take n s) ≡ n = length-take-le n s (omega arith) in
-      let size : n + length w - c ≡ length (take n s) + length (drop c w) = omega (arith, long, length-drop c w) in
-      rw plain
-      (ap (λ (k : ℕ). take k (put_mid n (length s - n) s y)) size
-      ∙ take-append-add (take n s) _ (length (drop c w))
-      ∙ ap (λ (l : List ℕ). take n s ++ l)
-      (ap (λ (l : List ℕ). take (length (drop c w)) (l ++ drop (length s - n) (drop n s)))
-      (e ∙ ap (λ (l : List ℕ). written l (take (length s - n) (drop n s))) (rest_part w c))
-      ∙ ap (take (length (drop c w))) (append_assoc (drop c w) _ _)
-      ∙ take-append_seam (drop c w) _))
-
   size : length (take (length w - c - 0) w) ≡ length w - c
   size = ap length (front_part w (length w - c)) ∙ length-take-le (length w - c) w (omega arith)
 
@@ -108,11 +92,6 @@ module _ (b : Bool) (s w : List ℕ) (n c : ℕ) (told : c ≡ common_prefix byt
 -- a buffer that begins with a product begins with a freely reduced word
 pub pushed_freely_reduced : (l t : List ℕ) (n : ℕ) → take n t ≡ freely_reduce bytes l → freely_reduce bytes (take n t) ≡ take n t
 pushed_freely_reduced l t n e = ap (freely_reduce bytes) e ∙ freely_reduce_twice bytes byte_laws l ∙ sym e
-
--- two words put there in turn
-pub pushed_twice : (t t' : List ℕ) (n r : ℕ) (u v : List ℕ) → take n t ≡ freely_reduce bytes u → take r t' ≡ freely_reduce bytes (take n t ++ v)
-    → take r t' ≡ freely_reduce bytes (u ++ v)
-pushed_twice t t' n r u v e f = f ∙ ap (λ (l : List ℕ). freely_reduce bytes (l ++ v)) e ∙ sym (freely_reduce_left bytes byte_laws u v)
 
 -- and the inverse of a freely reduced word is freely reduced
 pub inverse_freely_reduced : (w t : List ℕ) (n : ℕ) → freely_reduce bytes w ≡ w → take n t ≡ inverse bytes w → freely_reduce bytes (take n t) ≡ take n t

@@ -45,7 +45,7 @@ module _ {A : Type 0} (G : Alphabet A) where
   common_prefix (x ∷ u) [] = 0
   common_prefix (x ∷ u) (y ∷ v) = cond (same x y) (suc (common_prefix u v)) 0
 
-  -- and of their longest common suffix; no public contract speaks of it
+  -- and of their longest common suffix; no call's contract speaks of it
   abbrev pub common_suffix : List A → List A → ℕ
   common_suffix u v = common_prefix (inverse u) (inverse v)
 

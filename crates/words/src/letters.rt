@@ -1,6 +1,6 @@
 // Letters: the inverse of one, and many copied.
-ghost use Rattle.std.specs.Prelude.{◌+◌, ◌≤◌, ◌≡◌, length};
-ghost use Rattle.words.specs.Buffers.{written, written_at};
+ghost use Rattle.std.specs.Prelude.{◌≤◌, ◌≡◌, length};
+ghost use Rattle.words.specs.Buffers.{written};
 ghost use Rattle.words.specs.Alphabet.{flip_byte};
 
 // The inverse of a letter.
@@ -16,12 +16,4 @@ pub fn copy(word: &[u8], out: &mut [u8])
     ensures { out.new ≡ written word.now out.old }
 {
     out[..word.len()].copy_from_slice(word);
-}
-
-// Copies bytes to a place of a buffer.
-pub fn copy_at(bytes: &[u8], out: &mut [u8], at: usize)
-    requires { at + length bytes.now ≤ length out.old }
-    ensures { out.new ≡ written_at at bytes.now out.old }
-{
-    copy(bytes, &mut out[at..]);
 }

@@ -2,7 +2,7 @@
 ghost use Rattle.std.specs.Prelude.{◌+◌, ◌<◌, ◌≤◌, [], ◌∷◌, ◌≡◌, length};
 ghost use Rattle.words.specs.Writers.{Puts};
 
-use crate::letters::copy_at;
+use crate::letters::copy;
 
 // A lent buffer, and how many bytes of it are written.
 #[derive(Drop)]
@@ -35,7 +35,7 @@ impl<'a> Writer<'a> {
         requires { self.old.at + length bytes.now ≤ length self.old.buffer.now }
         ensures { Puts self.old bytes.now self.new }
     {
-        copy_at(bytes, self.buffer, self.at);
+        copy(bytes, &mut self.buffer[self.at..]);
         self.at += bytes.len();
     }
 

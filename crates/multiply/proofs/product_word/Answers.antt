@@ -4,8 +4,10 @@ use Rattle.multiply.proofs.Multiplying.{read_all, read_more}
 use Rattle.multiply.proofs.SlotLetters.{slot_inside}
 use Rattle.multiply.proofs.product_word.Goals as goal
 
-pub word-requires : goal.word-requires
-word-requires c = search (slot_inside, rules)
+pub multiply-requires : goal.multiply-requires
+multiply-requires c =
+    let inside = slot_inside _ _ _ _ _ _ c.requires.named c.word_in-letter-items.ensures.word c.load.ensures (search rules) c.from.ensures in
+    (search rules, (inside, search rules))
 
 pub loop-letter-preserved : goal.loop-letter-preserved
 loop-letter-preserved c = (search rules, search (read_more, rules))

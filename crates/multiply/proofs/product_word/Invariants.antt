@@ -2,7 +2,7 @@ use Rattle.std.proofs.Common.{◌*◌, ◌≤◌, ◌≡◌, length, take}
 use mathlib.Core.List.{map}
 use Rattle.words.specs.Alphabet.{bytes}
 use Rattle.systems.specs.Products.{multiplied}
-use Rattle.slots.specs.Factors.{factor_of}
+use Rattle.systems.specs.Factors.{factor_of}
 use Rattle.multiply.proofs.product_word.Given as goal
 
 abbrev pub invariant-loop-letter : goal.invariant-loop-letter

@@ -1,6 +1,6 @@
 -- `replay::check_replay` meets its contract.
 use borrow.Author.Rules.{rules}
-use Rattle.records.proofs.Chains.{then_end, then_failed, then_fine}
+use Rattle.records.proofs.Chains.{then_failed, then_fine}
 use Rattle.replay.specs.Replay.{replay_tests}
 use Rattle.replay.proofs.check_replay.Goals as goal
 
@@ -12,10 +12,6 @@ pub returns-in_default-logged : goal.returns-in_default-logged
 unfolding replay_tests
 returns-in_default-logged c = search (then_failed, then_fine, rules)
 
-pub returns-in_default-roomy : goal.returns-in_default-roomy
-unfolding replay_tests
-returns-in_default-roomy c = search (then_failed, then_fine, rules)
-
 pub returns : goal.returns
 unfolding replay_tests
-returns c = search (then_fine, then_end, rules)
+returns c = search (then_fine, rules)

@@ -1,7 +1,6 @@
 -- `replay::replay` meets its contract.
 use borrow.Author.Rules.{rules}
 use Rattle.records.proofs.Chains.{answered, changed, unchanged}
-use Rattle.slots.proofs.Holding.{held_none}
 use Rattle.replay.proofs.Calls.{passed_log, passed_room, passed_size, rules_run, rules_tests, run-written}
 use Rattle.replay.proofs.replay.Goals as goal
 
@@ -9,7 +8,7 @@ pub returns-in_default : goal.returns-in_default
 returns-in_default c = search (answered, unchanged, rules_tests, rules)
 
 pub load-requires : goal.load-requires
-load-requires c = search (passed_size, held_none, rules)
+load-requires c = search (passed_size, rules)
 
 pub run-ran-requires : goal.run-ran-requires
 run-ran-requires c = search (passed_log, rules)

@@ -1,6 +1,6 @@
 -- `slots::checks::check_system_room` meets its contract.
 use borrow.Author.Rules.{rules}
-use Rattle.records.proofs.Chains.{then_end, then_failed, then_fine}
+use Rattle.records.proofs.Chains.{then_failed, then_fine}
 use Rattle.slots.specs.Refusals.{system_room}
 use Rattle.slots.proofs.checks.check_system_room.Goals as goal
 
@@ -8,10 +8,6 @@ pub returns-in_default : goal.returns-in_default
 unfolding system_room
 returns-in_default c = search (then_failed, rules)
 
-pub returns-in_default-roomy : goal.returns-in_default-roomy
-unfolding system_room
-returns-in_default-roomy c = search (then_failed, then_fine, rules)
-
 pub returns : goal.returns
 unfolding system_room
-returns c = search (then_fine, then_end, rules)
+returns c = search (then_fine, rules)

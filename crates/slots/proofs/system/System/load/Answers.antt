@@ -1,14 +1,24 @@
 -- `slots::system::System::load` meets its contract.
-use borrow.Author.Rules.{rules}
-use mathlib.Core.Path.{◌∙◌}
-use Rattle.slots.proofs.Arrays.{load_all, load_inside, load_more, load_rest}
+use Rattle.slots.proofs.Arrays.{load_all, load_count, load_more}
+use Rattle.std.proofs.Common.{arith, ap, ◌∙◌, ◌<◌, ◌≡◌, ℕ, List, [], get_or}
+use Rattle.slots.specs.Systems.{slots}
+use Rattle.slots.proofs.Systems.{chunk_at}
 use Rattle.slots.proofs.system.System.load.Goals as goal
+
+pub add-requires : goal.add-requires
+add-requires c =
+    let count = load_count c.args.records.now c.loop-record.self c.loop-record.record-index c.loop-record.invariant in
+    omega (arith, count, c.loop-record-test.true, c.as_chunks.ensures.front_len, c.requires)
 
 pub loop-record-preserved : goal.loop-record-preserved
 loop-record-preserved c =
-    let cut = c.in-Some.ensures.steps.1.0 in
-    let sized = c.in-Some.ensures.steps.1.1 ∙ c.loop-record.invariant.0 in
-    (search rules, search (load_rest, rules), search (load_inside, rules), search (load_more, rules))
+    let s = c.args.records.now in
+    let k = c.loop-record.record-index in
+    let inside : k < slots s = omega (arith, c.loop-record-test.true, c.as_chunks.ensures.front_len) in
+    let part = ap (λ (l : List (List ℕ)). get_or l k []) c.as_chunks.ensures.front ∙ chunk_at (slots s) k s [] inside in
+    load_more s c.loop-record.self k c.loop-record.invariant part c.add.ensures
 
 pub returns : goal.returns
-returns c = search (load_all, rules)
+returns c =
+    let all : c.loop-record.record-index ≡ slots c.args.records.now = omega (arith, c.loop-record-test.false, c.loop-record.auto.record-index-end, c.as_chunks.ensures.front_len) in
+    load_all _ _ _ c.loop-record.invariant all

@@ -2,7 +2,7 @@
 use borrow.Author.Rules.{rules}
 use mathlib.Core.Path.{◌∙◌}
 use Rattle.slots.proofs.Arrays.{store_more}
-use Rattle.slots.proofs.Holding.{mid_length}
+use Rattle.slots.proofs.Arrays.{mid_length}
 use Rattle.slots.proofs.system.System.store.Goals as goal
 
 pub loop-k-preserved : goal.loop-k-preserved

@@ -4,4 +4,4 @@ use Rattle.words.proofs.Joining.{pushed_freely_reduced}
 use Rattle.words.proofs.word.Word.push.Goals as goal
 
 pub invariant_of-self : goal.invariant_of-self
-invariant_of-self g c = search (pushed_freely_reduced, rules)
+invariant_of-self g c = (search rules, search (pushed_freely_reduced, rules))

@@ -1,0 +1,21 @@
+-- `records::record::word_in` meets its contract.
+use borrow.Author.Rules.{rules}
+use borrow.Author.Tests.{tests}
+use lib.ListN.{take}
+use Rattle.std.proofs.lemmas.Iterator.{YieldsList-from_slice}
+use Rattle.std.proofs.lemmas.Iterator.Search.{position_from_yields_List}
+use Rattle.records.specs.Records.{is_stop}
+use Rattle.records.proofs.Rules.{word_ended, word_whole}
+use Rattle.records.proofs.record.word_in.Goals as goal
+
+pub returns-in-Some-clause-word : goal.returns-in-Some-clause-word
+returns-in-Some-clause-word c =
+    word_ended c.args.bytes.now
+    (position_from_yields_List is_stop _ _ c.position.result c.position.ensures.ran (YieldsList-from_slice (take 63 c.args.bytes.now) cc) (λ x b q k. search (rules, tests)))
+    c.in-Some.is
+
+pub returns-in-None-clause-word : goal.returns-in-None-clause-word
+returns-in-None-clause-word c =
+    word_whole c.args.bytes.now
+    (position_from_yields_List is_stop _ _ c.position.result c.position.ensures.ran (YieldsList-from_slice (take 63 c.args.bytes.now) cc) (λ x b q k. search (rules, tests)))
+    c.in-None.is
