@@ -1,12 +1,9 @@
 -- The call ask: the verdict and the product from the words taken in, and the answer by what the tests found.
 use Prim.Native.Nat.{◌≤◌, ℕ}
-use mathlib.Core.Bool.{Bool}
 use mathlib.Core.List.{List}
-use Rattle.std.specs.Prelude.{Option}
-use mathlib.Core.Path.{◌∙◌, ◌≡◌, ap, sym}
+use mathlib.Core.Path.{◌∙◌, ◌≡◌, ap, ap₂, sym}
 use lib.ListN.{length}
 use borrow.Author.Tests.{leb-true}
-use Rattle.systems.specs.declared.Factor.{Factor}
 use Rattle.records.specs.Answers.{answer_of}
 use Rattle.records.specs.Refusals.{must}
 use Rattle.records.specs.declared.answers.Answer.{Answer}
@@ -14,11 +11,10 @@ use Rattle.records.specs.declared.answers.Refusal.{Refusal}
 use Rattle.records.specs.declared.answers.Verdict.{Verdict}
 use Rattle.records.proofs.Chains.{fine_first, fine_next, must_fine}
 use Rattle.records.proofs.Targets.{target-sized}
-use Rattle.slots.specs.Held.{held}
 use Rattle.slots.specs.Refusals.{system_rules}
 use Rattle.slots.proofs.Systems.{system-size}
 use Rattle.runs.specs.Runs.{stopped}
-use Rattle.factoring.specs.TargetProduct.{is_found, product_after, product_for}
+use Rattle.factoring.specs.TargetProduct.{is_found, product_after, product_for, target_word}
 use Rattle.asking.specs.Asking.{asked_of, question_rules, ready_rules, verdict_of}
 use Rattle.records.specs.declared.refusals.Reason.TheVariants.{ProductBufferShort, SystemNotReduced}
 use Rattle.std.specs.Prelude.{Err, Ok}
@@ -54,15 +50,11 @@ module _ (c : Checked) (v : Verdict) {x : Checked} (e : x ≡ c) where
   pub asked-given : {u : Verdict} → x ≡ Ok tt → u ≡ v → ◌≡◌ {A = Answer} (record { verdict = u }) (asked_of c v)
   asked-given h same = (λ i. record { verdict = same i }) ∙ sym (ap (λ (d : Checked). asked_of d v) (sym e ∙ h))
 
--- the verdict from what was found
-pub concluded : (o : Option (List Factor)) {found : Bool} {v : Verdict} → found ≡ is_found o → v ≡ verdict_of found → v ≡ verdict_of (is_found o)
-concluded o e told = told ∙ ap verdict_of e
+-- the words that were taken in, asked about the target
+module _ {S T : List (List ℕ)} {t u : List ℕ} (same : S ≡ T) (target : t ≡ u) where
+  pub verdict_same : {v : Verdict} → v ≡ verdict_of (is_found (product_for S (target_word t))) → v ≡ verdict_of (is_found (product_for T (target_word u)))
+  verdict_same e = e ∙ ap₂ (λ (U : List (List ℕ)) (l : List ℕ). verdict_of (is_found (product_for U (target_word l)))) same target
 
--- words held, asked about the target
-module _ (T : List (List ℕ)) (letters lengths w : List ℕ) (n : ℕ) (told : held n letters lengths ≡ T) where
-  pub verdict_held : {v : Verdict} → v ≡ verdict_of (is_found (product_for (held n letters lengths) w)) → v ≡ verdict_of (is_found (product_for T w))
-  verdict_held e = e ∙ ap (λ (U : List (List ℕ)). verdict_of (is_found (product_for U w))) told
-
-  pub product-held : (out product : List ℕ) → out ≡ product_after (product_for (held n letters lengths) w) product
-      → out ≡ product_after (product_for T w) product
-  product-held out product e = e ∙ ap (λ (U : List (List ℕ)). product_after (product_for U w) product) told
+  pub product_same : (product : List ℕ) {out : List ℕ} → out ≡ product_after (product_for S (target_word t)) product
+      → out ≡ product_after (product_for T (target_word u)) product
+  product_same product e = e ∙ ap₂ (λ (U : List (List ℕ)) (l : List ℕ). product_after (product_for U (target_word l)) product) same target

@@ -19,7 +19,8 @@ use Rattle.systems.specs.Products.{Equivalent, FreelyReduced, FreelyReducedOver,
 use Rattle.systems.specs.declared.Factor.{Factor}
 use Rattle.systems.specs.Reduced.{Reduced}
 use Rattle.systems.proofs.Equivalence.{reduced-equivalent, reduced-multiplied}
-use Rattle.systems.proofs.Logic.{bool_cases, option_cases}
+use Rattle.std.proofs.lemmas.Bool.{cases_Bool}
+use Rattle.systems.proofs.Logic.{option_cases}
 use Rattle.systems.proofs.Membership.{factored-freely, factored-length, factored-only, factored_sound, generated_none, some_generated}
 use Rattle.systems.proofs.ProductLaws.{Named, over-named, over_words_over, word-slot, words-named}
 use Rattle.records.specs.Answers.{on_fine, refusal_number}
@@ -30,7 +31,8 @@ use Rattle.records.specs.declared.answers.Verdict.{Verdict}
 use Rattle.records.specs.declared.answers.Verdict.TheVariants.{Member, NotMember}
 use Rattle.records.proofs.Chains.{fine_first, fine_next, must_fine}
 use Rattle.records.proofs.RoundTrip.{word-short}
-use Rattle.slots.specs.Factors.{factor_byte, factor_of, product_of}
+use Rattle.systems.specs.Factors.{factor_byte, factor_of}
+use Rattle.slots.specs.Factors.{product_of}
 use Rattle.slots.specs.Refusals.{system_rules, word_room}
 use Rattle.slots.specs.Systems.{freely_reduced_words, slots, system_of}
 use Rattle.slots.proofs.Factors.{product_back, product-length, product_passes}
@@ -272,7 +274,7 @@ module _ (s t product : List ℕ) (a : Answer) (product' : List ℕ) (answered :
             λ system target. (
               λ e reduced. true≢false (sym ((tested_means s).1 reduced) ∙ (unreduced system target).0 e),
               λ o.
-                  (unreduced system target).1 (elim (bool_cases (stopped (freely_reduced_words s))) [
+                  (unreduced system target).1 (elim (cases_Bool (stopped (freely_reduced_words s))) [
                     | inl e ↦ absurd (o ((tested_means s).0 e))
                     | inr e ↦ e
                   ]),

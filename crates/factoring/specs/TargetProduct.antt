@@ -7,7 +7,7 @@ use Rattle.words.specs.Words.{freely_reduce}
 use Rattle.systems.specs.Factoring.{factored}
 use Rattle.systems.specs.declared.Factor.{Factor}
 use Rattle.records.specs.Records.{record_of, word_of}
-use Rattle.slots.specs.Factors.{factor_byte}
+use Rattle.systems.specs.Factors.{factor_byte}
 
 -- what a target freely reduces to
 abbrev pub target_word : List ℕ → List ℕ

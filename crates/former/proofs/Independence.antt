@@ -16,7 +16,6 @@ use Rattle.systems.specs.Products.{FreelyReduced}
 use Rattle.systems.specs.Rank.{none_blank, rank}
 use Rattle.systems.specs.Rules.{moves_within, next, run_within}
 use Rattle.systems.proofs.Independence.{independent-moves, independent-none_blank}
-use Rattle.systems.proofs.Logic.{bool_cases, not_true_false, true_not_false}
 use Rattle.systems.proofs.Neither.{run-freely_reduced, run_length, run-reduced}
 use Rattle.systems.proofs.Rank.{rank_full}
 use Rattle.systems.proofs.Runs.{run_apart}
@@ -40,6 +39,7 @@ use Rattle.former.proofs.Program.{lines_of}
 use Rattle.records.specs.declared.refusals.Reason.TheVariants.{LogBufferShort}
 use Rattle.std.specs.Prelude.{Err, Ok}
 use Rattle.records.specs.Refusals.{Checked}
+use Rattle.std.proofs.lemmas.Bool.{both_ways, cases_Bool, false_from_ne_true}
 
 -- the answer of reduce and of member as it was
 abbrev pub former_reduction_of : Checked → Verdict → List (List ℕ) → ℕ → Reduction
@@ -73,9 +73,9 @@ module _ (S : List (List ℕ)) (start : FreelyReduced bytes S) (most : ℕ) wher
   -- the verdict is the former one and that no word was blank before the run
   none_blank_both : next bytes (run_within bytes most S) ≡ None
       → none_blank (run_within bytes most S) ≡ none_blank S && eqb (rank (run_within bytes most S)) (rank S)
-  none_blank_both ended = elim (bool_cases (none_blank S)) [
+  none_blank_both ended = elim (cases_Bool (none_blank S)) [
     | inl full ↦ rw full (none_blank-same full)
-    | inr blank ↦ rw blank (not_true_false _ (λ e. true_not_false (none_blank S) (none_blank-before ended e) blank))
+    | inr blank ↦ rw blank (false_from_ne_true _ (λ e. both_ways (none_blank S) blank (none_blank-before ended e)))
   ]
 
   independence_by : (c : Checked) (v : Verdict) → (c ≡ Ok tt → next bytes (run_within bytes most S) ≡ None)

@@ -8,7 +8,6 @@ use native.Mathlib.Omega.{arith}
 use lib.Dec.{eqb, leb}
 use lib.ListN.{length}
 use borrow.Author.Tests.{eqb-false, eqb-true, le-leb, leb-false, leb-true, lt-leb, ne_eqb}
-use Rattle.systems.proofs.Logic.{bool_cases}
 use Rattle.records.specs.Refusals.{◌and_then◌, each_below, must, refusal}
 use Rattle.slots.specs.Refusals.{slot_rules, system_rules}
 use Rattle.slots.specs.Systems.{slots}
@@ -17,6 +16,7 @@ use Rattle.former.proofs.Order.{SameUnless, former_input_rules, former_system_ru
 use Rattle.records.specs.declared.refusals.Reason.TheVariants.{SystemTooLong, SystemUneven, TargetOrProductMalformed}
 use Rattle.std.specs.Prelude.{Err, Ok}
 use Rattle.records.specs.Refusals.{Checked}
+use Rattle.std.proofs.lemmas.Bool.{cases_Bool}
 
 -- a chain of tests with nothing after it, and with its tests grouped otherwise
 then_nothing : (c : Checked) → c ≡ c and_then (Ok tt)
@@ -33,11 +33,11 @@ length-same_unless : (most n : ℕ) (few : Bool) → (n ≤ most → few ≡ tru
 length-same_unless most n few short long =
     record {
       elsewhere = λ h.
-          elim (bool_cases (leb n most)) [
+          elim (cases_Bool (leb n most)) [
             | inl fits ↦ rw (fits, short (leb-true n most fits)) (then_nothing _)
             | inr over ↦
                 let more : most < n = leb-false n most over in
-                elim (bool_cases (eqb (n % 64) 0)) [
+                elim (cases_Bool (eqb (n % 64) 0)) [
                   | inl even ↦ rw (over, even, long more (eqb-true _ _ even)) refl
                   | inr uneven ↦ absurd (h (more, eqb-false _ _ uneven))
                 ]

@@ -1,4 +1,4 @@
--- What the search for a half-end move tests. No public contract speaks of these. The first half of the
+-- What the search for a half-end move tests. No call's contract speaks of these. The first half of the
 -- inverse of a word of even length is the inverse of its second half.
 use Rattle.std.specs.Prelude.{ℕ, Bool, ◌||◌, List}
 use Rattle.words.specs.Alphabet.{bytes}

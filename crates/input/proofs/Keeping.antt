@@ -9,8 +9,8 @@ use lib.ListN.{drop, get_or, length, length-append, length-take, take, take-appe
 use lib.Seq.{get_or-append-add, get_or-take, take-append_seam, length-take-le}
 use borrow.Author.Tests.{le-leb, leb-false, leb-true, lt-leb}
 use Rattle.words.specs.Buffers.{written}
-use Rattle.systems.proofs.Logic.{bool_cases}
 use Rattle.input.specs.Input.{CountOf, Holds, ReadInput, counted, kept_after}
+use Rattle.std.proofs.lemmas.Bool.{cases_Bool}
 
 -- a length as it is counted
 counted_exact : (n : ℕ) → n ≤ 1088 → n ≡ counted n
@@ -24,7 +24,7 @@ counted_long n h = rw (lt-leb n 1088 h) refl
 -- it is a count of that length
 counted_is : (n : ℕ) → CountOf n (counted n)
 counted_is n =
-    elim (bool_cases (leb n 1088)) [
+    elim (cases_Bool (leb n 1088)) [
       | inl h ↦ inl (sym (counted_exact n (leb-true n 1088 h)))
       | inr h ↦
           let long : 1088 < n = leb-false n 1088 h in
@@ -94,7 +94,7 @@ module _ (next kept : List ℕ) (size : ℕ) (input : List ℕ) (before : Holds 
   kept_first : (i : ℕ) → CountOf (length input) size → i < length (input ++ next) → i < length kept → i < 1088
       → get_or (kept_after next kept size) i 0 ≡ get_or (input ++ next) i 0
   kept_first i (inl e) came inside short =
-      elim (bool_cases (leb size i)) [
+      elim (cases_Bool (leb size i)) [
         | inl h ↦
             let after : size ≤ i = leb-true size i h in
             kept_next next kept size i after inside short (omega (arith, length-append input next))
@@ -118,10 +118,6 @@ module _ (next kept : List ℕ) (size : ℕ) (input : List ℕ) (before : Holds 
         count = rw (told, length-append input next) (count_next (length input) size (length next) before.count);
       }
 
--- before anything is read the input is empty, and each part that is read makes it longer
+-- before anything is read the input is empty
 pub nothing_read : (kept : List ℕ) → ReadInput kept 0
 nothing_read kept = record { input = []; holds = record { first = λ i came inside short. absurd (omega arith); count = inl refl } }
-
-pub more_read : (next kept : List ℕ) (size : ℕ) {kept' : List ℕ} {size' : ℕ}
-    → ((input : List ℕ) → Holds input kept size → Holds (input ++ next) kept' size') → ReadInput kept size → ReadInput kept' size'
-more_read next kept size keeps before = record { input = before.input ++ next; holds = keeps before.input before.holds }

@@ -1,46 +1,92 @@
-// The inverses of the words held in arrays, formed beside them: of all, or of one.
+// A system of words with the inverse of each beside it. A contract sees the list of its words.
 #![tactic(auto)]
 
-ghost use Rattle.std.specs.Prelude.{◌-◌, ◌<◌, ℕ, ◌≡◌, length};
+ghost use Rattle.std.specs.Prelude.{[], false, true, ◌<◌, ◌≤◌, ◌≡◌, leb, length, map};
 ghost use Rattle.words.specs.Alphabet.{bytes};
 ghost use Rattle.words.specs.Words.{inverse};
-ghost use Rattle.slots.specs.Held.{Held, held_word};
-ghost use Rattle.inverses.specs.Inverses.{Inverted};
+ghost use Rattle.systems.specs.Products.{FreelyReduced};
+ghost use Rattle.systems.specs.Moves.{made, moved_word};
+ghost use Rattle.slots.specs.Systems.{AllShort, freely_reduced_words};
 
-use records::record::RECORD;
-use slots::held::length_of;
-use words::product::append_inverse;
+use moves::make::make_move;
+use slots::system::System;
+use std::marker::Model;
+use systems::Move;
 
-// Forms the inverses of the words of all n slots.
-pub fn invert_words(letters: &[u8], lengths: &[usize], n: usize, inverses: &mut [u8])
-    requires held { Held n letters.now lengths.now }
-    requires wide { length inverses.old ≡ 1024 }
-    ensures { Inverted n letters.now inverses.new lengths.now }
-{
-    for k in 0..n {
-        invert_word(letters, lengths, n, k, inverses);
+// The words of a system, and their inverses.
+#[derive(Drop)]
+pub struct WithInverses {
+    words: System,
+    inverses: System,
+}
+
+impl Model for WithInverses {
+    ghost use Rattle.std.specs.Prelude.{List, ℕ, ◌≡◌, map};
+    ghost use Rattle.words.specs.Alphabet.{bytes};
+    ghost use Rattle.words.specs.Words.{inverse as inverse_word};
+
+    ghost Value = { List (List ℕ) };
+
+    ghost view = { λ s. s.words };
+
+    ghost invariant = { λ s. s.inverses ≡ map (inverse_word bytes) s.words };
+}
+
+impl WithInverses {
+    // The system of no words.
+    pub fn new() -> Self
+        ensures { result ≡ [] }
+    {
+        WithInverses {
+            words: System::new(),
+            inverses: System::new(),
+        }
     }
-}
 
-// Forms the inverse of one slot's word. The 64 bytes that end with the word are turned round, so that the loop has one length; in the first
-// slot, those of the word alone. What comes after the inverse in its slot is no part of it.
-pub fn invert_word(letters: &[u8], lengths: &[usize], n: usize, k: usize, inverses: &mut [u8])
-    requires inside { k < n }
-    requires held { Held n letters.now lengths.now }
-    requires wide { length inverses.old ≡ 1024 }
-    ensures formed { held_word inverses.new lengths.now k ≡ inverse bytes (held_word letters.now lengths.now k) }
-    ensures others { (j : ℕ) → (j ≡ k → ⊥) → held_word inverses.new lengths.now j ≡ held_word inverses.old lengths.now j }
-{
-    let at = k * RECORD;
-    let stop = at + RECORD;
-    let end = at + length_of(lengths, k);
-    let from = one_record_before(end);
-    append_inverse(&mut inverses[at..stop], 0, &letters[from..end]);
-}
+    // Puts the words of a system of records, freely reduced, in place of these.
+    pub fn load(&mut self, records: &[u8])
+        requires { length records.now ≤ 1024 }
+        ensures { self.new ≡ freely_reduced_words records.now }
+    {
+        self.words.load(records);
+        self.inverses.invert(&self.words);
+    }
 
-// The place 64 bytes before another, or the beginning.
-fn one_record_before(end: usize) -> usize
-    ensures { result ≡ end - 64 }
-{
-    if end < RECORD { 0 } else { end - RECORD }
+    // How many slots the system has.
+    pub fn len(&self) -> usize
+        ensures slots { result ≡ length self.now }
+        ensures few { result ≤ 16 }
+        ensures short { AllShort self.now }
+        ensures freely { FreelyReduced bytes self.now }
+    {
+        self.words.len()
+    }
+
+    // The words.
+    pub fn words(&self) -> &System
+        ensures { result.now ≡ self.now }
+    {
+        &self.words
+    }
+
+    // Their inverses.
+    pub fn inverses(&self) -> &System
+        ensures { result.now ≡ map (inverse bytes) self.now }
+    {
+        &self.inverses
+    }
+
+    // Makes a move, and answers whether its word has at most 63 letters; where it has more, nothing is made.
+    pub fn make(&mut self, m: Move) -> bool
+        requires inside { (m.changed < length self.old) × (m.other < length self.old) }
+        ensures fits { result ≡ leb (length (moved_word bytes self.old m)) 63 }
+        ensures made { result ≡ true → self.new ≡ made bytes self.old m }
+        ensures left { result ≡ false → self.new ≡ self.old }
+    {
+        let fits = make_move(&mut self.words, m);
+        if fits {
+            self.inverses.invert_word(m.changed, &self.words);
+        }
+        fits
+    }
 }

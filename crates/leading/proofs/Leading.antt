@@ -1,27 +1,28 @@
--- The search for the factor with which a word begins, over words held in arrays: a big end, or else a half start. What of a factor begins
--- the word, and what another factor ends with, is counted. One law for each turn and each way out.
-use Prim.Native.Nat.{◌%◌, ◌*◌, ◌+◌, ◌/◌, ◌<◌, ◌≤◌, ℕ}
-use mathlib.Core.Bool.{Bool, not-not, ◌&&◌, ◌||◌, false, not, true}
-use mathlib.Core.List.{List}
-use Rattle.std.specs.Prelude.{None, Option, Some}
+-- The search for the factor with which a word begins: a big end, or else a half start. What of a factor begins the word, and what another
+-- factor ends with, is counted. One law for each turn and each way out.
+use Prim.Native.Nat.{◌%◌, ◌*◌, ◌+◌, ◌/◌, ◌<◌, ◌≤◌, ℕ, suc, zero}
+use mathlib.Core.Bool.{Bool, cond, not-not, ◌&&◌, ◌||◌, false, not, true, true≢false}
+use mathlib.Core.List.{List, [], ◌∷◌}
+use Rattle.std.specs.Prelude.{None, Option, Some, is_some}
+use Rattle.std.proofs.Common.{slice_index_or}
 use mathlib.Core.Path.{◌∙◌, ◌≡◌, ap, ap₂, refl, sym}
+use native.Mathlib.Numerals.{add-one}
 use native.Mathlib.Omega.{arith}
 use lib.Dec.{eqb, leb, ltb}
 use lib.ListN.{length}
-use borrow.Author.Tests.{eq-eqb, le-leb, lt-leb, ne_eqb, not-false, not-true}
+use borrow.Author.Tests.{eq-eqb, le-leb, lt-leb, ne_eqb}
 use Rattle.words.specs.Alphabet.{bytes}
 use Rattle.words.specs.Words.{common_prefix, inverse, signed}
 use Rattle.words.proofs.Alphabet.{byte_laws}
 use Rattle.words.proofs.Inverse.{signed-length}
-use Rattle.systems.specs.Factoring.{big_end, either_of, ends_other, leading}
-use Rattle.systems.specs.Products.{word}
+use Rattle.systems.specs.Factoring.{big_end, either_of, ends_other, half_start, leading}
+use Rattle.systems.specs.Products.{value, word}
 use Rattle.systems.specs.declared.Factor.{Factor}
 use Rattle.systems.specs.Rules.{ends, first, second_half}
+use Rattle.systems.proofs.Logic.{some_not-none}
 use Rattle.systems.proofs.Halves.{begins-signed, ends-signed}
-use Rattle.systems.proofs.Searching.{any_found, any_more-one, first_found, first-more-one}
-use Rattle.slots.specs.Held.{held, held_word}
-use Rattle.slots.proofs.Holding.{held-length, held_word_lem}
-use Rattle.leading.specs.Leads.{ends_apart, ends_elsewhere, lead_below, leads}
+use Rattle.systems.proofs.Searching.{any_found, any_more-one, first_found}
+use Rattle.leading.specs.Leads.{ends_apart, ends_elsewhere}
 
 -- a factor of slot j other than that of slot k ends with the second half of that, by the counts
 ends-counted : (b c : Bool) (u v : List ℕ) (r : ℕ) → length u % 2 ≡ 0 → r ≡ common_prefix bytes (signed bytes (not b) u) (signed bytes (not c) v)
@@ -33,12 +34,12 @@ module _ (k j : ℕ) (b : Bool) (u v : List ℕ) (even : length u % 2 ≡ 0) (r 
   opposite_counted : ends bytes (second_half bytes (signed bytes b u)) (signed bytes (not b) v) ≡ leb (length u / 2) r
   opposite_counted = ends-counted b (not b) u v r even (rw (not-not b) opposite)
 
-  pub apart_opposite : length u / 2 ≤ r → true ≡ ends_apart k b u j v
+  pub apart_opposite : length u / 2 ≤ r → leb (length u / 2) r ≡ ends_apart k b u j v
   unfolding ends_apart
   apart_opposite h = rw (opposite_counted, le-leb (length u / 2) r h)
 
   module _ (short : r < length u / 2) where
-    pub apart_same : j ≡ k → false ≡ ends_apart k b u j v
+    pub apart_same : j ≡ k → not (eqb j k) ≡ ends_apart k b u j v
     unfolding ends_apart
     apart_same e = rw (opposite_counted, lt-leb (length u / 2) r short, eq-eqb j k e)
 
@@ -74,119 +75,168 @@ other_apart S k j false =
     other-plain (eqb j k) (ends bytes half (word bytes S j)) (ends bytes half (inverse bytes (word bytes S j)))
 
 -- the loop over the slots whose factors may end with the second half
-module _ (letters lengths : List ℕ) (n k : ℕ) (b : Bool) where
-  pub elsewhere_begin : ends_elsewhere 0 (held n letters lengths) k b ≡ false
+module _ (S : List (List ℕ)) (x : Factor) where
+  pub elsewhere_begin : ends_elsewhere 0 S x ≡ false
   unfolding ends_elsewhere
   elsewhere_begin = refl
 
-  pub elsewhere_even : (whole : List ℕ) → whole ≡ held_word letters lengths k → length (held_word letters lengths k) % 2 ≡ 0 → length whole % 2 ≡ 0
-  elsewhere_even whole mine even = rw mine even
-
-  module _ (j : ℕ) (none_yet : ends_elsewhere j (held n letters lengths) k b ≡ false) where
-    pub elsewhere_end : j ≤ n → n ≤ j → false ≡ ends_elsewhere n (held n letters lengths) k b
-    elsewhere_end l m = let z : j ≡ n = omega arith in sym (rw z at none_yet)
-
-    module _ (whole other : List ℕ) (met : Bool) (told : met ≡ ends_apart k b whole j other)
-        (mine : whole ≡ held_word letters lengths k) (yours : other ≡ held_word letters lengths j) (k_inside : k < n) (j-inside : j < n) where
-      apart_told : ends_other bytes (held n letters lengths) (record { slot = k; inverted = b }) j ≡ met
+  module _ (j : ℕ) (none_yet : ends_elsewhere j S x ≡ false) where
+    module _ (whole other : List ℕ) (met : Bool) (told : met ≡ ends_apart x.slot x.inverted whole j other)
+        (mine : whole ≡ word bytes S x.slot) (yours : other ≡ word bytes S j) where
+      apart_told : ends_other bytes S x j ≡ met
       apart_told =
-          other_apart (held n letters lengths) k j b
-          ∙ ap₂ (λ (u v : List ℕ). ends_apart k b u j v) (held_word_lem n k letters lengths k_inside ∙ sym mine)
-          (held_word_lem n j letters lengths j-inside ∙ sym yours)
+          other_apart S x.slot j x.inverted
+          ∙ ap₂ (λ (u v : List ℕ). ends_apart x.slot x.inverted u j v) (sym mine) (sym yours)
           ∙ sym told
 
-      pub elsewhere_turn : met ≡ false → ends_elsewhere (j + 1) (held n letters lengths) k b ≡ false
+      pub elsewhere_turn : met ≡ false → ends_elsewhere (j + 1) S x ≡ false
       unfolding ends_elsewhere
-      elsewhere_turn e =
-          any_more-one (ends_other bytes (held n letters lengths) (record { slot = k; inverted = b })) j none_yet (apart_told ∙ e)
+      elsewhere_turn e = any_more-one (ends_other bytes S x) j none_yet (apart_told ∙ e)
 
-      pub elsewhere_met : met ≡ true → true ≡ ends_elsewhere n (held n letters lengths) k b
+      pub elsewhere_met : j < length S → met ≡ true → true ≡ ends_elsewhere (length S) S x
       unfolding ends_elsewhere
-      elsewhere_met e =
-          sym (any_found (ends_other bytes (held n letters lengths) (record { slot = k; inverted = b })) j n j-inside (apart_told ∙ e))
+      elsewhere_met inside e = sym (any_found (ends_other bytes S x) j (length S) inside (apart_told ∙ e))
 
--- whether a factor of slot k leads the word w, test after test
-module _ (half : Bool) (letters lengths w whole : List ℕ) (n k : ℕ) (b : Bool) (mine : whole ≡ held_word letters lengths k) (inside : k < n)
-    (begun : ℕ) (told : begun ≡ common_prefix bytes (signed bytes b whole) w) where
-  pub leads_big : not half ≡ true → ltb (length whole) (2 * begun) ≡ leads half (held n letters lengths) w (record { slot = k; inverted = b })
-  unfolding leads
-  leads_big e = rw (not-true half e, held_word_lem n k letters lengths inside, ← mine, signed-length bytes byte_laws b whole, told)
+-- whether a factor leads the word w, by the count of the letters of it that begin w
+module _ (S : List (List ℕ)) (w whole : List ℕ) (x : Factor) (mine : whole ≡ word bytes S x.slot) (begun : ℕ)
+    (told : begun ≡ common_prefix bytes (value bytes S x) w) where
+  pub big_counted : ltb (length whole) (2 * begun) ≡ big_end bytes S w x
+  big_counted = ap₂ (λ (m c : ℕ). ltb m (2 * c)) (ap length mine ∙ sym (signed-length bytes byte_laws x.inverted (word bytes S x.slot))) told
 
-  module _ (halves : not half ≡ false) where
-    leads_as : leads half (held n letters lengths) w (record { slot = k; inverted = b })
-        ≡ not (eqb (length whole) 0) && eqb (length whole % 2) 0 && leb (length whole / 2) begun && ends_elsewhere n (held n letters lengths) k b
-    unfolding leads ends_elsewhere
-    leads_as =
-        rw (
-          not-false half halves,
-          held_word_lem n k letters lengths inside,
-          ← mine,
-          begins-signed bytes byte_laws b whole w,
-          signed-length bytes byte_laws b whole,
-          held-length n letters lengths,
-          ← told,
-        )
+  half_counted : half_start bytes S w x
+      ≡ not (eqb (length whole) 0) && eqb (length whole % 2) 0 && leb (length whole / 2) begun && ends_elsewhere (length S) S x
+  unfolding ends_elsewhere
+  half_counted =
+      rw (
+        begins-signed bytes byte_laws x.inverted (word bytes S x.slot) w,
+        signed-length bytes byte_laws x.inverted (word bytes S x.slot),
+        ← told,
+        ← mine,
+      )
 
-    pub half_blank : length whole ≡ 0 → false ≡ leads half (held n letters lengths) w (record { slot = k; inverted = b })
-    half_blank z = rw (leads_as, eq-eqb (length whole) 0 z)
+  pub half_blank : (r : Bool) → r ≡ false → length whole ≡ 0 → r ≡ half_start bytes S w x
+  half_blank r e z = rw (half_counted, eq-eqb (length whole) 0 z) e
 
-    module _ (filled : length whole ≡ 0 → ⊥) where
-      pub half_odd : (length whole % 2 ≡ 0 → ⊥) → false ≡ leads half (held n letters lengths) w (record { slot = k; inverted = b })
-      half_odd odd = rw (leads_as, ne_eqb (length whole) 0 filled, ne_eqb (length whole % 2) 0 odd)
+  module _ (filled : length whole ≡ 0 → ⊥) where
+    pub half_odd : (r : Bool) → r ≡ false → (length whole % 2 ≡ 0 → ⊥) → r ≡ half_start bytes S w x
+    half_odd r e odd = rw (half_counted, ne_eqb (length whole) 0 filled, ne_eqb (length whole % 2) 0 odd) e
 
-      module _ (even : length whole % 2 ≡ 0) where
-        pub half-short : begun < length whole / 2 → false ≡ leads half (held n letters lengths) w (record { slot = k; inverted = b })
-        half-short less =
-            rw (leads_as, ne_eqb (length whole) 0 filled, eq-eqb (length whole % 2) 0 even, lt-leb (length whole / 2) begun less)
+    module _ (even : length whole % 2 ≡ 0) where
+      pub half-short : (r : Bool) → r ≡ false → begun < length whole / 2 → r ≡ half_start bytes S w x
+      half-short r e less =
+          rw (half_counted, ne_eqb (length whole) 0 filled, eq-eqb (length whole % 2) 0 even, lt-leb (length whole / 2) begun less) e
 
-        pub half-begins : length whole / 2 ≤ begun → (r : Bool) → r ≡ ends_elsewhere n (held n letters lengths) k b
-            → r ≡ leads half (held n letters lengths) w (record { slot = k; inverted = b })
-        half-begins reached r e =
-            rw (leads_as, ne_eqb (length whole) 0 filled, eq-eqb (length whole % 2) 0 even, le-leb (length whole / 2) begun reached) e
+      pub half-begins : length whole / 2 ≤ begun → (r : Bool) → r ≡ ends_elsewhere (length S) S x → r ≡ half_start bytes S w x
+      half-begins reached r e =
+          rw (half_counted, ne_eqb (length whole) 0 filled, eq-eqb (length whole % 2) 0 even, le-leb (length whole / 2) begun reached) e
 
-pub whole_even : (letters lengths whole : List ℕ) (k : ℕ) → whole ≡ held_word letters lengths k → length whole % 2 ≡ 0
-    → length (held_word letters lengths k) % 2 ≡ 0
-whole_even letters lengths whole k mine even = rw (← mine) even
+-- the factor x where none is found yet and it passes its test
+abbrev or_next : Option Factor → Bool → Factor → Option Factor
+or_next found passes x = elim found [ None ↦ cond passes (Some x) None | Some y ↦ Some y ]
 
--- the loop over the slots
-module _ (half : Bool) (letters lengths w : List ℕ) (n : ℕ) where
-  pub leads_begin : lead_below half 0 (held n letters lengths) w ≡ None
-  unfolding lead_below
-  leads_begin = refl
+-- the first factor that passes a test, of those of the first k slots and the first m of slot k
+abbrev pub sought : (Factor → Bool) → ℕ → ℕ → Option Factor
+sought test k zero = first (either_of bytes test) k
+sought test k (suc m) = let x : Factor = record { slot = k; inverted = eqb m 1 } in or_next (sought test k m) (test x) x
 
-  module _ (k : ℕ) (before : lead_below half k (held n letters lengths) w ≡ None) where
-    pub leads_end : k ≤ n → n ≤ k → None ≡ lead_below half n (held n letters lengths) w
-    leads_end l m = let z : k ≡ n = omega arith in sym (rw z at before)
+-- both factors of a slot, one after the other
+next_two : (found : Option Factor) (p q : Bool) (x y : Factor)
+    → or_next (or_next found p x) q y ≡ elim found [ None ↦ cond p (Some x) (cond q (Some y) None) | Some z ↦ Some z ]
+next_two None true q x y = refl
+next_two None false q x y = refl
+next_two (Some z) p q x y = refl
 
-    module _ (plain : Bool) (told : plain ≡ leads half (held n letters lengths) w (record { slot = k; inverted = false })) where
-      pub leads-plain : k < n → plain ≡ true → Some (record { slot = k; inverted = false }) ≡ lead_below half n (held n letters lengths) w
-      unfolding lead_below
-      leads-plain inside e =
-          sym (first_found (either_of bytes (leads half (held n letters lengths) w)) k n _ inside before (rw (sym told ∙ e)))
+next_none : (found : Option Factor) (p : Bool) (x : Factor) → or_next found p x ≡ None → (found ≡ None) × (p ≡ false)
+next_none None true x e = absurd (some_not-none _ _ refl e)
+next_none None false x e = (refl, refl)
+next_none (Some z) p x e = absurd (some_not-none _ _ refl e)
 
-      module _ (missed : plain ≡ false) (inverted : Bool)
-          (told₂ : inverted ≡ leads half (held n letters lengths) w (record { slot = k; inverted = true })) where
-        pub leads-inverted : k < n → inverted ≡ true → Some (record { slot = k; inverted = true }) ≡ lead_below half n (held n letters lengths) w
-        unfolding lead_below
-        leads-inverted inside e =
-            sym (first_found (either_of bytes (leads half (held n letters lengths) w)) k n _ inside before (rw (sym told ∙ missed, sym told₂ ∙ e)))
+module _ (test : Factor → Bool) (k : ℕ) where
+  sought_both : sought test k 2 ≡ first (either_of bytes test) (suc k)
+  sought_both =
+      let plain : Factor = record { slot = k; inverted = false } in
+      let turned : Factor = record { slot = k; inverted = true } in
+      next_two (first (either_of bytes test) k) (test plain) (test turned) plain turned
 
-        pub leads_turn : inverted ≡ false → lead_below half (k + 1) (held n letters lengths) w ≡ None
-        unfolding lead_below
-        leads_turn e =
-            first-more-one (either_of bytes (leads half (held n letters lengths) w)) k before (rw (sym told ∙ missed, sym told₂ ∙ e))
+  sought_found : (m n : ℕ) → m < 2 → k < n → sought test k m ≡ None → test (record { slot = k; inverted = eqb m 1 }) ≡ true
+      → first (either_of bytes test) n ≡ Some (record { slot = k; inverted = eqb m 1 })
+  sought_found zero n l inside none e = first_found (either_of bytes test) k n _ inside none (rw e)
+  sought_found (suc zero) n l inside none e =
+      let before = next_none (first (either_of bytes test) k) (test (record { slot = k; inverted = false })) _ none in
+      first_found (either_of bytes test) k n _ inside before.0 (rw (before.1, e))
+  sought_found (suc (suc m)) n l inside none e = absurd (omega arith)
 
--- the leading factor: a big end, or else a half start
-module _ (letters lengths w : List ℕ) (n : ℕ) (big : Option Factor) (told : big ≡ lead_below false n (held n letters lengths) w) where
-  big_first : first (either_of bytes (big_end bytes (held n letters lengths) w)) (length (held n letters lengths)) ≡ big
-  unfolding lead_below leads
-  big_first = rw (held-length n letters lengths) (sym told)
+-- of the factors passed none is a big end, and the first half start is kept
+pub record Sought (S : List (List ℕ)) (w : List ℕ) (k m : ℕ) (half : Option Factor) : Type 0 where
+  pub no_big : sought (big_end bytes S w) k m ≡ None
+  pub first_half : half ≡ sought (half_start bytes S w) k m
 
-  pub leading_big : {x : Factor} → big ≡ Some x → big ≡ leading bytes (held n letters lengths) w
+-- the signs of a slot's two factors, in their order
+pub sign : (m : ℕ) → m < 2 → slice_index_or (false ∷ true ∷ []) m false ≡ eqb m 1
+sign zero l = refl
+sign (suc zero) l = refl
+sign (suc (suc m)) l = absurd (omega arith)
+
+-- a factor's letters that begin the word, counted
+pub begun_told : (S : List (List ℕ)) (k : ℕ) (b : Bool) (whole w : List ℕ) (begun : ℕ) → whole ≡ word bytes S k
+    → begun ≡ common_prefix bytes (signed bytes b whole) w → begun ≡ common_prefix bytes (value bytes S (record { slot = k; inverted = b })) w
+begun_told S k b whole w begun mine e = rw (← mine) e
+
+-- what the search has found after one more factor
+next_kept : (found : Option Factor) (p : Bool) (x : Factor) → is_some found ≡ true → found ≡ or_next found p x
+next_kept None p x e = absurd (true≢false (sym e))
+next_kept (Some y) p x e = refl
+
+next_missed : (found : Option Factor) (x : Factor) → found ≡ or_next found false x
+next_missed None x = refl
+next_missed (Some y) x = refl
+
+next_taken : (found : Option Factor) (x : Factor) → is_some found ≡ false → Some x ≡ or_next found true x
+next_taken None x e = refl
+next_taken (Some y) x e = absurd (true≢false e)
+
+module _ (S : List (List ℕ)) (w : List ℕ) (k m : ℕ) (half : Option Factor) (here : Sought S w k m half) where
+  pub sought_turn : m ≤ 2 → 2 ≤ m → Sought S w (k + 1) 0 half
+  sought_turn l r =
+      let both : m ≡ 2 = omega arith in
+      record {
+        no_big = rw add-one (sym (sought_both (big_end bytes S w) k) ∙ (rw both at here.no_big));
+        first_half = rw add-one ((rw both at here.first_half) ∙ sought_both (half_start bytes S w) k);
+      }
+
+  pub sought_end : m ≡ 0 → k ≤ length S → length S ≤ k → half ≡ leading bytes S w
   unfolding leading
-  leading_big e = rw (big_first, e, leading)
+  sought_end z l r =
+      let whole : k ≡ length S = omega arith in
+      rw (leading, rw (z, whole) at here.no_big) (rw (z, whole) at here.first_half)
 
-  pub leading-half : (half : Option Factor) → big ≡ None → half ≡ lead_below true n (held n letters lengths) w
-      → half ≡ leading bytes (held n letters lengths) w
-  unfolding leading lead_below leads
-  leading-half half e d = rw (big_first, e, leading, held-length n letters lengths) d
+  module _ (b is_big : Bool) (sign : b ≡ eqb m 1) (told : is_big ≡ big_end bytes S w (record { slot = k; inverted = b })) where
+    pub sought_big : is_big ≡ true → k < length S → m < 2 → Some (record { slot = k; inverted = b }) ≡ leading bytes S w
+    unfolding leading
+    sought_big e inside l =
+        let found = sought_found (big_end bytes S w) k m (length S) l inside here.no_big (rw (← sign) (sym told ∙ e)) in
+        rw (leading, found, sign)
+
+    module _ (missed : is_big ≡ false) where
+      sought_next : (found : Option Factor)
+          → found ≡ or_next half (half_start bytes S w (record { slot = k; inverted = b })) (record { slot = k; inverted = b })
+          → Sought S w k (m + 1) found
+      sought_next found e =
+          record {
+            no_big = rw (add-one, sought, here.no_big, ← sign, ← told, missed);
+            first_half = rw (add-one, ← here.first_half, ← sign) e;
+          }
+
+      -- a half start was found before
+      pub sought_kept : (none : Bool) → is_some half ≡ not none → none ≡ false → (found : Option Factor) → found ≡ half → Sought S w k (m + 1) found
+      sought_kept none told₂ e found same = sought_next found (same ∙ next_kept half _ _ (told₂ ∙ ap not e))
+
+      module _ (is_half : Bool) (told₂ : is_half ≡ half_start bytes S w (record { slot = k; inverted = b })) where
+        -- this factor is none
+        pub sought_missed : is_half ≡ false → (found : Option Factor) → found ≡ half → Sought S w k (m + 1) found
+        sought_missed e found same = sought_next found (rw (← told₂, e) (same ∙ next_missed half (record { slot = k; inverted = b })))
+
+        -- this factor is the first
+        pub sought_taken : (none : Bool) → is_some half ≡ not none → none ≡ true → is_half ≡ true → (found : Option Factor)
+            → found ≡ Some (record { slot = k; inverted = b }) → Sought S w k (m + 1) found
+        sought_taken none told₃ n e found same = sought_next found (rw (← told₂, e) (same ∙ next_taken half _ (told₃ ∙ ap not n)))

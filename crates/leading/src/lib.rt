@@ -1,99 +1,67 @@
-// The factor with which a word begins, over a reduced system that is held in arrays. The search counts letters and builds nothing.
+// The factor with which a word begins, over a reduced system. The search counts letters and builds nothing.
 #![tactic(auto)]
 
-ghost use Rattle.std.specs.Prelude.{◌%◌, ◌<◌, ◌≡◌, length};
+ghost use Rattle.std.specs.Prelude.{List, ℕ, ◌%◌, ◌<◌, ◌≡◌, ◌≤◌, length};
 ghost use Rattle.words.specs.Alphabet.{bytes};
-ghost use Rattle.systems.specs.Factoring.{leading};
-ghost use Rattle.slots.specs.Held.{Held, held, held_word};
-ghost use Rattle.leading.specs.Leads.{LeadBelow, ends_apart, ends_elsewhere, lead_below, leads};
+ghost use Rattle.words.specs.Words.{common_prefix};
+ghost use Rattle.systems.specs.Factoring.{big_end, half_start, leading};
+ghost use Rattle.systems.specs.Products.{value, word};
+ghost use Rattle.leading.specs.Leads.{LeadBelow, ends_apart, ends_elsewhere};
 
-use slots::held::word_at;
+use slots::system::System;
 use systems::Factor;
 use words::cancel::common_prefix_signed;
 
 // The factor with which a word begins: the first big end, or else the first half start.
-pub fn leading_factor(word: &[u8], n: usize, letters: &[u8], lengths: &[usize]) -> Option<Factor>
-    requires { Held n letters.now lengths.now }
-    ensures found { result ≡ leading bytes (held n letters.now lengths.now) word.now }
-    ensures below { LeadBelow n result }
+pub fn leading_factor(word: &[u8], system: &System) -> Option<Factor>
+    ensures found { result ≡ leading bytes system.now word.now }
+    ensures below { LeadBelow (length system.now) result }
+    ensures few { LeadBelow 16 result }
 {
-    let big = find_lead(false, word, n, letters, lengths);
-    let None = big else {
-        return big;
-    };
-    find_lead(true, word, n, letters, lengths)
-}
-
-// The first factor that leads a word as a half start, or as a big end.
-fn find_lead(half: bool, word: &[u8], n: usize, letters: &[u8], lengths: &[usize]) -> Option<Factor>
-    requires { Held n letters.now lengths.now }
-    ensures found { result ≡ lead_below half n (held n letters.now lengths.now) word.now }
-    ensures below { LeadBelow n result }
-{
-    for k in 0..n {
-        let plain = does_lead(half, false, word, n, letters, lengths, k);
-        if plain {
-            return Some(Factor {
-                slot: k,
-                inverted: false,
-            });
-        }
-        let inverted = does_lead(half, true, word, n, letters, lengths, k);
-        if inverted {
-            return Some(Factor {
-                slot: k,
-                inverted: true,
-            });
+    let mut half = None;
+    for k in 0..system.len() {
+        for inverted in [false, true] {
+            let x = Factor { slot: k, inverted };
+            let begun = common_prefix_signed(inverted, system.word(k), false, word);
+            if is_big_end(x, begun, system) {
+                return Some(x);
+            }
+            if half.is_none() && is_half_start(x, begun, system) {
+                half = Some(x);
+            }
         }
     }
-    None
+    half
 }
 
-// Whether a factor of slot k leads a word. A big end: more than half of it begins the word. A half start: its first half begins the word,
-// and another factor ends with its second half.
-fn does_lead(
-    half: bool,
-    inverted: bool,
-    word: &[u8],
-    n: usize,
-    letters: &[u8],
-    lengths: &[usize],
-    k: usize,
-) -> bool
-    requires inside { k < n }
-    requires held { Held n letters.now lengths.now }
-    ensures { result ≡ leads half (held n letters.now lengths.now) word.now (record { slot = k; inverted = inverted }) }
+// Whether more than half of a factor begins the word with which it has so many letters in common.
+fn is_big_end(x: Factor, begun: usize, system: &System) -> bool
+    requires inside { x.slot < length system.now }
+    requires within { begun ≤ length (word bytes system.now x.slot) }
+    ensures { (w : List ℕ) → begun ≡ common_prefix bytes (value bytes system.now x) w → result ≡ big_end bytes system.now w x }
 {
-    let whole = word_at(letters, lengths, k);
-    let size = whole.len();
-    let begun = common_prefix_signed(inverted, whole, false, word);
-    if !half {
-        return size < 2 * begun;
-    }
-    if size == 0 {
-        return false;
-    }
-    if size % 2 != 0 {
-        return false;
-    }
-    if begun < size / 2 {
-        return false;
-    }
-    ends_elsewhere(inverted, n, letters, lengths, k)
+    system.word(x.slot).len() < 2 * begun
 }
 
-// Whether another factor ends with the second half of that of slot k, its word or, inverted, the inverse.
-fn ends_elsewhere(inverted: bool, n: usize, letters: &[u8], lengths: &[usize], k: usize) -> bool
-    requires inside { k < n }
-    requires held { Held n letters.now lengths.now }
-    requires even { length (held_word letters.now lengths.now k) % 2 ≡ 0 }
-    ensures { result ≡ ends_elsewhere n (held n letters.now lengths.now) k inverted }
+// Whether the first half of a factor begins the word with which it has so many letters in common, and another factor ends with its second
+// half.
+fn is_half_start(x: Factor, begun: usize, system: &System) -> bool
+    requires { x.slot < length system.now }
+    ensures { (w : List ℕ) → begun ≡ common_prefix bytes (value bytes system.now x) w → result ≡ half_start bytes system.now w x }
 {
-    let whole = word_at(letters, lengths, k);
-    for j in 0..n {
-        let other = word_at(letters, lengths, j);
-        let met = ends_apart(k, inverted, whole, j, other);
-        if met {
+    let size = system.word(x.slot).len();
+    size != 0 && size % 2 == 0 && size / 2 <= begun && ends_elsewhere(x, system)
+}
+
+// Whether another factor ends with the second half of one, whose word has an even length.
+fn ends_elsewhere(x: Factor, system: &System) -> bool
+    requires inside { x.slot < length system.now }
+    requires even { length (word bytes system.now x.slot) % 2 ≡ 0 }
+    ensures { result ≡ ends_elsewhere (length system.now) system.now x }
+{
+    let whole = system.word(x.slot);
+    for j in 0..system.len() {
+        if ends_apart(x, whole, j, system.word(j)) {
             return true;
         }
     }
@@ -101,18 +69,11 @@ fn ends_elsewhere(inverted: bool, n: usize, letters: &[u8], lengths: &[usize], k
 }
 
 // The same of the two factors of slot j alone.
-fn ends_apart(k: usize, inverted: bool, whole: &[u8], j: usize, other: &[u8]) -> bool
+fn ends_apart(x: Factor, whole: &[u8], j: usize, other: &[u8]) -> bool
     requires { length whole.now % 2 ≡ 0 }
-    ensures { result ≡ ends_apart k inverted whole.now j other.now }
+    ensures { result ≡ ends_apart x.slot x.inverted whole.now j other.now }
 {
     let half = whole.len() / 2;
-    let opposite = common_prefix_signed(!inverted, whole, inverted, other);
-    if half <= opposite {
-        return true;
-    }
-    if j == k {
-        return false;
-    }
-    let alike = common_prefix_signed(!inverted, whole, !inverted, other);
-    half <= alike
+    half <= common_prefix_signed(!x.inverted, whole, x.inverted, other)
+        || j != x.slot && half <= common_prefix_signed(!x.inverted, whole, !x.inverted, other)
 }

@@ -11,8 +11,8 @@ use borrow.Author.Tests.{le-ltb, leb-false, leb-true, lt-ltb}
 use mir.Syntax.{w64}
 use mir.Val.{Fits}
 use Rattle.io.specs.Digits.{IsDigitCount, last_digits}
-use Rattle.systems.proofs.Logic.{bool_cases}
 use Rattle.lines.specs.Text.{decimal, digits_within}
+use Rattle.std.proofs.lemmas.Bool.{cases_Bool}
 
 -- the fewest digits that hold a number are as many as are counted
 module _ (n k : ℕ) (h : IsDigitCount 10 1 n (suc (suc k))) where
@@ -38,7 +38,7 @@ digits_counted (suc most) n (suc (suc k)) short h =
 -- a number of 64 bits has at most 20
 digits_few : (n k : ℕ) → Fits w64 n → IsDigitCount 10 1 n k → k ≤ 20
 digits_few n k word h =
-    elim (bool_cases (leb k 20)) [
+    elim (cases_Bool (leb k 20)) [
       | inl few ↦ leb-true k 20 few
       | inr more ↦
           let many : 20 < k = leb-false k 20 more in

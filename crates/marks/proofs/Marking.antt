@@ -1,135 +1,150 @@
--- The pairs that need not be tried again: marks set and added, that a move changes no other pair, and which slots need not be tried with one.
-use Prim.Native.Nat.{ℕ, zero, suc, ◌+◌, ◌*◌, ◌≤◌, ◌<◌}
-use mathlib.Core.Path.{◌≡◌, refl, sym, ap, ap₂, ◌∙◌}
-use mathlib.Core.Bool.{Bool, true, false, cond, not, true≢false}
-use mathlib.Core.Logic.{◌⊎◌, inl, inr}
-use Rattle.std.specs.Prelude.{None, Option, Some}
-use mathlib.Core.List.{List, []}
-use native.Mathlib.Omega.{arith}
+-- The pairs that need not be tried again: marks set and taken away, that a move changes no other pair, and that no pair with a blank
+-- word shortens anything.
+use Rattle.std.proofs.Common.{◌*◌, ◌+◌, ◌<◌, ◌≤◌, ◌≡◌, ◌⊎◌, ℕ, Bool, cond, false, true, List, [], get_or, length, replicate, set, eqb, leb, ltb, None, Option, Some, arith, ap, ap₂, inl, inr, refl, sym, ◌∙◌, length-set, get_or-set_other, get_or-set_same}
+use Rattle.std.proofs.lemmas.List.{get_or-replicate}
+use mathlib.Core.Bool.{true≢false}
 use native.Mathlib.Decide.{dec_lt, ℕ_discrete}
-use lib.ListN.{length, get_or, set, replicate, length-set, get_or-eq_default}
-use lib.Dec.{ltb, eqb}
-use borrow.Author.Tests.{eqb-true, eqb-false, not-true, not-false}
-use lib.Seq.{get_or-set_same, get_or-set_other}
+use borrow.Author.Tests.{eqb-true, le-leb}
 use Rattle.words.specs.Alphabet.{bytes}
 use Rattle.words.specs.Words.{freely_reduce}
 use Rattle.words.proofs.Alphabet.{byte_laws}
-use Rattle.systems.specs.Products.{word}
-use Rattle.systems.specs.Moves.{formed, made}
+use Rattle.systems.specs.Products.{FreelyReduced, word}
+use Rattle.systems.specs.Moves.{formed, made, moved_word, seam}
+use Rattle.systems.specs.declared.Form.{Form}
 use Rattle.systems.specs.declared.Move.{Move}
-use Rattle.systems.specs.Rules.{first, form_at, try_form, try_other, try_changed, shortening, next}
+use Rattle.systems.specs.Rules.{first, form_at, next, shortening, try_changed, try_form, try_other}
 use Rattle.systems.proofs.Logic.{unless_some}
-use Rattle.systems.proofs.Searching.{first-each, first_some}
-use Rattle.systems.proofs.Shortening.{try_found}
-use Rattle.systems.proofs.Undoing.{made_others}
-use Rattle.systems.proofs.Neither.{next_from}
-use Rattle.marks.specs.Marks.{Added, Marked, Outside, PairsSet, Settled}
+use Rattle.systems.proofs.Searching.{first-each, first_nowhere, first_some}
+use Rattle.systems.proofs.Shortening.{formed_shorter, other_missed, seam_le_changed, seam_le_other, try_found, try_not_shorter}
+use Rattle.systems.proofs.Undoing.{made-freely_reduced, made-length, made_others, set_holds}
+use Rattle.systems.proofs.Neither.{next_from, next_valid}
+use Rattle.slots.specs.Systems.{freely_reduced_words}
+use Rattle.slots.proofs.RoundTrip.{reduced-short, words-length}
+use Rattle.slots.proofs.Systems.{loaded_freely_reduced}
+use Rattle.marks.specs.Marks.{Marked, PairsSet, Ready, mark_of}
 
--- a mark that was added, or was there before
-one_set : (l : List ℕ) (k i a b : ℕ) → i < 16 → b < 16 → (get_or (set l (k * 16 + i) 1) (a * 16 + b) 0 ≡ 0 → ⊥)
-    → ((a ≡ k) × (b ≡ i)) ⊎ (get_or l (a * 16 + b) 0 ≡ 0 → ⊥)
-one_set l k i a b hi hb h = elim (ℕ_discrete (a * 16 + b) (k * 16 + i)) [
-  | yes e ↦ inl (omega arith, omega arith)
-  | no o ↦ inr (λ z. h (get_or-set_other l (k * 16 + i) (a * 16 + b) 1 0 o ∙ z))
-]
+-- no pair is marked at first
+unmarked : (S : List (List ℕ)) → length S ≤ 16 → Marked S (replicate 16 (replicate 16 false))
+unmarked S few k i k_in i-in h =
+    absurd (true≢false (sym h ∙ ap (λ (row : List Bool). get_or row i false) (get_or-replicate 16 k (replicate 16 false) [] (omega arith))
+    ∙ get_or-replicate 16 i false false (omega arith)))
 
--- the first j pairs with slot c, either way round, are set to v
-abbrev pub SetTo : ℕ → ℕ → ℕ → List ℕ → List ℕ → Type 0
-SetTo c v j marks₀ marks =
-    (k i : ℕ) → k < 16 → i < 16
-    → ((((k ≡ c) × (i < j)) ⊎ ((i ≡ c) × (k < j))) × (get_or marks (k * 16 + i) 0 ≡ v))
-    ⊎ ((k ≡ c → i < j → ⊥) × (i ≡ c → k < j → ⊥) × (get_or marks (k * 16 + i) 0 ≡ get_or marks₀ (k * 16 + i) 0))
+pub ready_loaded : (s : List ℕ) (S : List (List ℕ)) → S ≡ freely_reduced_words s → length s ≤ 1024 → Ready S (replicate 16 (replicate 16 false)) 0
+ready_loaded s S e room =
+    let few : length (freely_reduced_words s) ≤ 16 = omega (arith, words-length s) in
+    rw e (record {
+      few = few;
+      short = reduced-short s;
+      freely = loaded_freely_reduced s;
+      marked = unmarked (freely_reduced_words s) few;
+      last_within = omega arith;
+      settled = λ k i h. absurd (omega arith);
+    })
 
-pub set_begin : (c v : ℕ) (marks : List ℕ) → SetTo c v 0 marks marks
-set_begin c v marks k i hk hi = inr ((λ e l. omega arith), (λ e l. omega arith), refl)
-
-pub set_more : (c v j : ℕ) (marks₀ marks : List ℕ) → c < 16 → j < 16 → length marks ≡ 256 → SetTo c v j marks₀ marks
-    → SetTo c v (j + 1) marks₀ (set (set marks (c * 16 + j) v) (j * 16 + c) v)
-set_more c v j marks₀ marks hc hj sized here k i hk hi = elim (ℕ_discrete (k * 16 + i) (j * 16 + c)) [
-  | yes e ↦ inl (inr (omega arith, omega arith), rw e (get_or-set_same once (j * 16 + c) v 0 (rw (length-set marks (c * 16 + j) v) (omega arith))))
-  | no n ↦ elim (ℕ_discrete (k * 16 + i) (c * 16 + j)) [
-    | yes e ↦ inl (inl (omega arith, omega arith), get_or-set_other once (j * 16 + c) (k * 16 + i) v 0 n ∙ rw e (get_or-set_same marks (c * 16 + j) v 0 (omega arith)))
-    | no m ↦
-        let same : get_or (set once (j * 16 + c) v) (k * 16 + i) 0 ≡ get_or marks (k * 16 + i) 0 =
-        get_or-set_other once (j * 16 + c) (k * 16 + i) v 0 n ∙ get_or-set_other marks (c * 16 + j) (k * 16 + i) v 0 m in
-        elim (here k i hk hi) [
-          | inl old ↦ inl (elim old.0 [ inl p ↦ inl (p.0, omega (arith, p.1)) | inr p ↦ inr (p.0, omega (arith, p.1)) ], same ∙ old.1)
-          | inr old ↦ inr (
-            (λ e l. elim (dec_lt i j) [ yes h ↦ old.0 e h | no h ↦ m (omega arith) ]),
-            (λ e l. elim (dec_lt k j) [ yes h ↦ old.1 e h | no h ↦ n (omega arith) ]),
-            same ∙ old.2,
+-- one pair more
+module _ (S : List (List ℕ)) (marks : List (List Bool)) (k i : ℕ) (inside : k < length marks) where
+  mark_added : (a b : ℕ) → mark_of (set marks k (set (get_or marks k []) i true)) a b ≡ true → ((a ≡ k) × (b ≡ i)) ⊎ (mark_of marks a b ≡ true)
+  mark_added a b h = elim (ℕ_discrete a k) [
+    | no n ↦ inr (ap (λ (row : List Bool). get_or row b false) (sym (get_or-set_other marks k a _ [] n)) ∙ h)
+    | yes e ↦ elim (ℕ_discrete b i) [
+      | yes d ↦ inl (e, d)
+      | no n ↦ inr (
+          ap (λ (m : ℕ). mark_of marks m b) e ∙ sym (get_or-set_other (get_or marks k []) i b true false n)
+          ∙ ap (λ (row : List Bool). get_or row b false) (sym (get_or-set_same marks k _ [] inside))
+          ∙ ap (λ (m : ℕ). mark_of (set marks k (set (get_or marks k []) i true)) m b) (sym e) ∙ h
           )
-        ]
+    ]
   ]
-]
-  where
-    once : List ℕ
-    once = set marks (c * 16 + j) v
 
-pub set_all : (c v j : ℕ) (marks₀ marks : List ℕ) → 16 ≤ j → SetTo c v j marks₀ marks → PairsSet c v marks₀ marks
-set_all c v j marks₀ marks full here k i hk hi = elim (here k i hk hi) [
-  | inl set ↦ inl (elim set.0 [ inl p ↦ inl p.0 | inr p ↦ inr p.0 ], set.1)
-  | inr kept ↦ inr ((λ e. kept.0 e (omega arith)), (λ e. kept.1 e (omega arith)), kept.2)
-]
+  pub ready_marked : (last : ℕ) (given : List (List ℕ)) → Ready S marks last → S ≡ given → try_other bytes given k i ≡ None
+      → Ready S (set marks k (set (get_or marks k []) i true)) last
+  ready_marked last given r same failed =
+      record {
+        few = r.few;
+        short = r.short;
+        freely = r.freely;
+        marked = λ a b a_in b-in h. elim (mark_added a b h) [
+          | inl e ↦ rw (e.0, e.1, same) failed
+          | inr old ↦ r.marked a b a_in b-in old
+        ];
+        last_within = r.last_within;
+        settled = r.settled;
+      }
+
+-- a column of the first j rows is set to a mark
+pub record ColumnSet (c : ℕ) (mark : Bool) (j : ℕ) (before after : List (List Bool)) : Type 0 where
+  pub rows : length after ≡ length before
+  pub passed : (k : ℕ) → k < j → (c < length (get_or before k [])) × (get_or after k [] ≡ set (get_or before k []) c mark)
+  pub left : (k : ℕ) → j ≤ k → get_or after k [] ≡ get_or before k []
+
+pub column_begin : (c : ℕ) (mark : Bool) (marks : List (List Bool)) → ColumnSet c mark 0 marks marks
+column_begin c mark marks = record { rows = refl; passed = λ k h. absurd (omega arith); left = λ k h. refl }
+
+module _ (c : ℕ) (mark : Bool) (j : ℕ) (before after : List (List Bool)) (done : ColumnSet c mark j before after) where
+  pub column_more : j < length after → c < length (get_or after j []) → ColumnSet c mark (j + 1) before (set after j (set (get_or after j []) c mark))
+  column_more inside wide =
+      record {
+        rows = length-set after j _ ∙ done.rows;
+        passed = λ k h. elim (ℕ_discrete k j) [
+          | yes e ↦ rw (e, get_or-set_same after j (set (get_or after j []) c mark) [] inside, ← done.left j (omega arith)) (wide, refl)
+          | no n ↦ rw (get_or-set_other after j k (set (get_or after j []) c mark) [] n) (done.passed k (omega arith))
+        ];
+        left = λ k h. let n : k ≡ j → ⊥ = λ e. omega arith in get_or-set_other after j k _ [] n ∙ done.left k (omega arith);
+      }
+
+-- all of them, once the row of the slot was
+pub pairs_set : (c : ℕ) (mark : Bool) (j : ℕ) (marks marks' : List (List Bool)) → c < 16 → length marks ≡ 16
+    → ColumnSet c mark j (set marks c (replicate 16 mark)) marks' → 16 ≤ j → PairsSet c mark marks marks'
+pairs_set c mark j marks marks' inside rows done all k i k_in i-in =
+    let row : List Bool = get_or (set marks c (replicate 16 mark)) k [] in
+    let passed = done.passed k (omega arith) in
+    elim (ℕ_discrete i c) [
+      | yes e ↦ inl (inr e, rw (e, passed.1) (get_or-set_same row c mark false passed.0))
+      | no n ↦
+          let same : mark_of marks' k i ≡ get_or row i false = rw passed.1 (get_or-set_other row c i mark false n) in
+          elim (ℕ_discrete k c) [
+            | yes e ↦ inl (
+              inl e,
+              same ∙ rw (e, get_or-set_same marks c (replicate 16 mark) [] (omega arith)) (get_or-replicate 16 i mark false i-in),
+            )
+            | no m ↦ inr (m, n, same ∙ ap (λ (r : List Bool). get_or r i false) (get_or-set_other marks c k (replicate 16 mark) [] m))
+          ]
+    ]
+
+-- a pair of which at most half of the other word cancels in each form
+module _ (S : List (List ℕ)) (freely : FreelyReduced bytes S) (k i : ℕ) where
+  pub form-none : (form : Form) → 2 * seam bytes form (word bytes S i) (word bytes S k) ≤ length (word bytes S i) → try_form bytes S k i form ≡ None
+  form-none form most =
+      let u : List ℕ = word bytes S i in
+      let v : List ℕ = word bytes S k in
+      elim (dec_lt (length (freely_reduce bytes (formed bytes form u v))) (length v)) [
+        | yes l ↦ absurd (omega (arith, (formed_shorter bytes byte_laws form u v (freely i) (freely k)).0 l))
+        | no l ↦ try_not_shorter bytes byte_laws S k i form (omega arith)
+      ]
+
+  pub pair_none : ((form : Form) → 2 * seam bytes form (word bytes S i) (word bytes S k) ≤ length (word bytes S i)) → try_other bytes S k i ≡ None
+  pair_none most =
+      other_missed bytes byte_laws S k i
+      (first_nowhere (λ (j : ℕ). try_form bytes S k i (form_at j)) 4 (λ j l. form-none (form_at j) (most (form_at j))))
+
+  -- a blank word shortens none and is shortened by none
+  pub blank_none : length (word bytes S i) ≡ 0 ⊎ (length (word bytes S k) ≡ 0) → try_other bytes S k i ≡ None
+  blank_none blank = pair_none (λ form. elim blank [
+    | inl e ↦ omega (arith, seam_le_other bytes byte_laws form (word bytes S i) (word bytes S k))
+    | inr e ↦ omega (arith, seam_le_changed bytes byte_laws form (word bytes S i) (word bytes S k))
+  ])
 
 -- which forms shorten slot k by slot i depends on the two words alone
 try_words : ℕ → ℕ → List ℕ → List ℕ → Option Move
 try_words k i wk wi =
     cond (eqb i k) None
-    (first (λ j. cond (ltb (length (freely_reduce bytes (formed bytes (form_at j) wi wk))) (length wk)) (Some (record { changed = k; form = form_at j; other = i })) None) 4)
+    (first (λ j. cond (ltb (length (freely_reduce bytes (formed bytes (form_at j) wi wk))) (length wk))
+    (Some (record { changed = k; form = form_at j; other = i })) None) 4)
 
 other-same-words : (S T : List (List ℕ)) (k i : ℕ) → word bytes S k ≡ word bytes T k → word bytes S i ≡ word bytes T i
     → try_other bytes S k i ≡ try_other bytes T k i
 unfolding try_words
 other-same-words S T k i p q = ap₂ (try_words k i) p q
-
--- after a move, the pairs that have nothing to do with its changed slot stay marked
-pub marked_made : (n : ℕ) (S : List (List ℕ)) (m : Move) (marks marks' : List ℕ) → n ≤ 16 → Marked n S marks
-    → PairsSet m.changed 0 marks marks' → Marked n (made bytes S m) marks'
-marked_made n S m marks marks' few marked gone k i hk hi h = elim (gone k i (omega arith) (omega arith)) [
-  | inl set ↦ absurd (h set.1)
-  | inr kept ↦
-      other-same-words (made bytes S m) S k i (made_others bytes S m k kept.0) (made_others bytes S m i kept.1)
-      ∙ marked k i hk hi (λ z. h (kept.2 ∙ z))
-]
-
--- pairs with a slot are marked that neither shortens another nor is shortened
-pub marked_blank : (n c v : ℕ) (S : List (List ℕ)) (marks marks' : List ℕ) → n ≤ 16 → Marked n S marks → PairsSet c v marks marks'
-    → ((k i : ℕ) → (k ≡ c) ⊎ (i ≡ c) → try_other bytes S k i ≡ None) → Marked n S marks'
-marked_blank n c v S marks marks' few marked blank fails k i hk hi h = elim (blank k i (omega arith) (omega arith)) [
-  | inl set ↦ fails k i set.0
-  | inr kept ↦ marked k i hk hi (λ z. h (kept.2 ∙ z))
-]
-
-pub back_inside : (marks : List ℕ) (k i p : ℕ) → k < 16 → i < 16 → length marks ≡ 256 → i * 16 + k < length (set marks p 1)
-back_inside marks k i p hk hi e = rw (length-set marks p 1) (omega arith)
-
--- marks added in turn
-added_twice : (pair : ℕ → ℕ → Type 0) (marks marks' marks'' : List ℕ) → Added pair marks marks' → Added pair marks' marks'' → Added pair marks marks''
-added_twice pair marks marks' marks'' one two a b ha hb h = elim (two a b ha hb h) [ inl p ↦ inl p | inr old ↦ one a b ha hb old ]
-
-added_one : (pair : ℕ → ℕ → Type 0) (marks : List ℕ) (k i : ℕ) → i < 16 → pair k i → Added pair marks (set marks (k * 16 + i) 1)
-added_one pair marks k i hi p a b ha hb h = elim (one_set marks k i a b hi hb h) [ inl e ↦ inl (rw (e.0, e.1) p) | inr old ↦ inr old ]
-
--- a pair, and the same pair the other way round
-module _ (marks : List ℕ) (k i : ℕ) (both : Bool) (hk : k < 16) (hi : i < 16) where
-  pub pair_there : Added (λ a b. ((a ≡ k) × (b ≡ i)) ⊎ ((both ≡ true) × (a ≡ i) × (b ≡ k))) marks (set marks (k * 16 + i) 1)
-  pair_there = added_one (λ a b. ((a ≡ k) × (b ≡ i)) ⊎ ((both ≡ true) × (a ≡ i) × (b ≡ k))) marks k i hi (inl (refl, refl))
-
-  pub pair_back_too : both ≡ true
-      → Added (λ a b. ((a ≡ k) × (b ≡ i)) ⊎ ((both ≡ true) × (a ≡ i) × (b ≡ k))) marks (set (set marks (k * 16 + i) 1) (i * 16 + k) 1)
-  pair_back_too t =
-      let once = set marks (k * 16 + i) 1 in
-      added_twice (λ a b. ((a ≡ k) × (b ≡ i)) ⊎ ((both ≡ true) × (a ≡ i) × (b ≡ k))) marks once (set once (i * 16 + k) 1) pair_there
-      (added_one (λ a b. ((a ≡ k) × (b ≡ i)) ⊎ ((both ≡ true) × (a ≡ i) × (b ≡ k))) once i k hk (inr (t, refl, refl)))
-
--- marks added for pairs that were tried and failed
-pub marked_more : (n : ℕ) (S : List (List ℕ)) (pair : ℕ → ℕ → Type 0) (marks marks' : List ℕ) → n ≤ 16 → Marked n S marks
-    → Added pair marks marks' → ((k i : ℕ) → k < n → i < n → pair k i → try_other bytes S k i ≡ None) → Marked n S marks'
-marked_more n S pair marks marks' few marked added fails k i hk hi h = elim (added k i (omega arith) (omega arith) h) [
-  | inl p ↦ fails k i hk hi p
-  | inr old ↦ marked k i hk hi old
-]
 
 -- a move found for slot k changes slot k
 other-changed : (S : List (List ℕ)) (k i : ℕ) (m : Move) → try_other bytes S k i ≡ Some m → m.changed ≡ k
@@ -150,40 +165,63 @@ next-before S m inside e k i h l = first-each (try_other bytes S k) (length S) (
   | inr d ↦ first-each (try_changed bytes S) (length S) d.0 k (omega arith)
 ]) i l
 
--- after the next move, the slots before its changed slot are shortened by that one alone
-pub settled_made : (n : ℕ) (S T : List (List ℕ)) (m : Move) → length S ≡ n → m.changed < n → next bytes S ≡ Some m
-    → T ≡ made bytes S m → Settled n T m.changed
-settled_made n S T m few inside e t k i h l apart =
-    rw t (other-same-words (made bytes S m) S k i (made_others bytes S m k (omega arith)) (made_others bytes S m i apart)
-    ∙ next-before S m (omega arith) e k i h (omega arith))
+-- the next move: it is between two slots, its word fits its slot, and what is known after it
+module _ (S given : List (List ℕ)) (marks : List (List Bool)) (last : ℕ) (m : Move) (r : Ready S marks last) (same : S ≡ given)
+    (asked : next bytes given ≡ Some m) where
+  more : next bytes S ≡ Some m
+  more = ap (next bytes) same ∙ asked
 
-pub settled_none : (n : ℕ) (S : List (List ℕ)) → Settled n S 0
-settled_none n S k i h l apart = absurd (omega arith)
+  pub next_inside : (m.changed < length S) × (m.other < length S)
+  next_inside = let a = (next_valid bytes byte_laws S r.freely m more).allowed in (a.changed_inside, a.other_inside)
 
-zeros_zero : (n p : ℕ) → ◌≡◌ {A = ℕ} (get_or (replicate n 0) p 0) 0
-zeros_zero zero p = get_or-eq_default {A = ℕ} [] 0 {n = p} (omega arith)
-zeros_zero (suc n) zero = refl
-zeros_zero (suc n) (suc p) = zeros_zero n p
+  module _ (T : List (List ℕ)) {fits : Bool} (told : fits ≡ leb (length (moved_word bytes S m)) 63) (done : fits ≡ true → T ≡ made bytes S m) where
+    no_longer : length (moved_word bytes S m) ≤ 63
+    no_longer = omega (arith, (next_valid bytes byte_laws S r.freely m more).no_longer, r.short m.changed)
 
--- no pair is marked at first
-pub marked_none : (n : ℕ) (S : List (List ℕ)) (m : ℕ) → Marked n S (replicate m 0)
-marked_none n S m k i hk hi h = absurd (h (zeros_zero m (k * 16 + i)))
+    advanced : T ≡ made bytes S m
+    advanced = done (told ∙ le-leb _ _ no_longer)
 
--- whether a pair has to be tried
-module _ (marks : List ℕ) (k i : ℕ) where
-  pub stale_marked : (get_or marks (k * 16 + i) 0 ≡ 0 → ⊥) → false ≡ false → (i ≡ k → ⊥) → get_or marks (k * 16 + i) 0 ≡ 0 → ⊥
-  stale_marked m h n z = m z
+    pub advanced_given : T ≡ made bytes given m
+    advanced_given = rw same at advanced
 
-  pub fresh_apart : not (eqb i k) ≡ true → i ≡ k → ⊥
-  fresh_apart h = eqb-false i k (not-true (eqb i k) h)
+    advanced-length : length T ≡ length S
+    advanced-length = ap length advanced ∙ made-length bytes S m
 
-  pub stale_same : not (eqb i k) ≡ false → (i ≡ k → ⊥) → get_or marks (k * 16 + i) 0 ≡ 0 → ⊥
-  stale_same h n z = n (eqb-true i k (not-false (eqb i k) h))
+    pub advanced_inside : m.changed < length T
+    advanced_inside = omega (arith, advanced-length, next_inside)
 
--- the slots outside a range
-module _ (n c k : ℕ) where
-  pub outside_one : k < c → Outside n c k (record { start = c; end = c + 1 })
-  outside_one l j h o = (l, λ e. o (omega arith) (omega arith))
+    advanced-freely : FreelyReduced bytes T
+    advanced-freely = rw advanced (made-freely_reduced bytes byte_laws S m r.freely)
 
-  pub outside_none : Outside n c k (record { start = 0; end = n })
-  outside_none j h o = absurd (o (omega arith) h)
+    advanced-words : (k i : ℕ) → (k ≡ m.changed → ⊥) → (i ≡ m.changed → ⊥) → try_other bytes T k i ≡ try_other bytes S k i
+    advanced-words k i p q = rw advanced (other-same-words (made bytes S m) S k i (made_others bytes S m k p) (made_others bytes S m i q))
+
+    -- a mark that is set is an old one, or the changed slot is blank now
+    advanced_marked : (marks' : List (List Bool)) (blank : Bool) → PairsSet m.changed blank marks marks'
+        → (blank ≡ true → length (word bytes T m.changed) ≡ 0) → Marked T marks'
+    advanced_marked marks' blank turned empty k i k_in i-in h =
+        elim (turned k i (omega (arith, advanced-length, r.few)) (omega (arith, advanced-length, r.few))) [
+          | inl set ↦
+              let none = empty (sym set.1 ∙ h) in
+              blank_none T advanced-freely k i (elim set.0 [
+                | inl e ↦ inr (rw e none)
+                | inr e ↦ inl (rw e none)
+              ])
+          | inr kept ↦
+              advanced-words k i kept.0 kept.1
+              ∙ r.marked k i (omega (arith, advanced-length)) (omega (arith, advanced-length)) (sym kept.2 ∙ h)
+        ]
+
+    -- the slots before the one changed are now shortened by that one alone
+    pub ready_advanced : (marks' : List (List Bool)) {blank : Bool} (U : List (List ℕ)) (w : List ℕ) → U ≡ T → w ≡ word bytes U m.changed
+        → blank ≡ eqb (length w) 0 → PairsSet m.changed blank marks marks' → Ready T marks' m.changed
+    ready_advanced marks' {blank} U w there e tested turned =
+        record {
+          few = omega (arith, advanced-length, r.few);
+          short = rw advanced (set_holds (λ k w. length w ≤ 63) S m.changed (moved_word bytes S m) [] r.short no_longer);
+          freely = advanced-freely;
+          marked = advanced_marked marks' blank turned (λ b. ap length (sym (rw there at e)) ∙ eqb-true (length w) 0 (sym tested ∙ b));
+          last_within = omega (arith, advanced_inside);
+          settled = λ k i h l apart.
+              advanced-words k i (λ e. omega arith) apart ∙ next-before S m (omega (arith, next_inside)) more k i h (omega (arith, advanced-length));
+        }

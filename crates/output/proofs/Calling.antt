@@ -11,7 +11,6 @@ use lib.ListN.{length, replicate}
 use lib.Seq.{length-take-le}
 use borrow.Author.Tests.{eqb-false, eqb-true, leb-true, not-true}
 use Rattle.words.specs.Alphabet.{bytes}
-use Rattle.systems.proofs.Logic.{bool_cases}
 use Rattle.systems.proofs.Neither.{moves-most}
 use Rattle.records.specs.Refusals.{◌and_then◌, must, Checked}
 use Rattle.records.specs.declared.answers.Refusal.{Refusal}
@@ -29,6 +28,7 @@ use Rattle.printing.proofs.Printing.{prints_as}
 use Rattle.output.specs.Output.{output_from, answer_output, given_system, given_target, input_rules, program_log, program_product, program_output, program_words}
 use Rattle.printing.specs.Printing.{Prints, Printed}
 use Rattle.records.specs.declared.refusals.Reason.TheVariants.{SystemTooLong, SystemUneven, TargetOrProductMalformed}
+use Rattle.std.proofs.lemmas.Bool.{cases_Bool}
 
 -- the moves of an answer of member have room in the log
 reduction_moves : (c : Checked) (v : Verdict) (S : List (List ℕ)) (most : ℕ) → (reduction_of c v S most).moves ≤ most
@@ -76,7 +76,7 @@ module _ (size : ℕ) (passed : input_rules size ≡ Ok tt) where
 pub refused_from : (kept : List ℕ) (size : ℕ) {f : Refusal} → input_rules size ≡ Err f → output_from kept size ≡ Some (refusal_line f)
 unfolding output_from program_output
 refused_from kept size refused =
-    elim (bool_cases (leb size (length kept))) [
+    elim (cases_Bool (leb size (length kept))) [
       | inl all ↦ rw (all, ap input_rules (length-take-le size kept (leb-true size (length kept) all)), refused) refl
       | inr missing ↦ rw (missing, refused) refl
     ]

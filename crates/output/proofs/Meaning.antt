@@ -12,7 +12,7 @@ use lib.Seq.{ext_get_or, get_or-take, length-take-le}
 use borrow.Author.Tests.{le-leb, leb-false, leb-true, lt-leb, ne_eqb}
 use Rattle.words.specs.Alphabet.{bytes}
 use Rattle.systems.specs.Rules.{next, run_within}
-use Rattle.systems.proofs.Logic.{bool_cases, option_cases}
+use Rattle.systems.proofs.Logic.{option_cases}
 use Rattle.records.specs.Refusals.{refusal}
 use Rattle.records.specs.declared.answers.Refusal.{Refusal}
 use Rattle.slots.specs.Systems.{freely_reduced_words, slots}
@@ -30,6 +30,7 @@ use Rattle.output.specs.Output.{answer, answer_output, given_system, given_targe
 use Rattle.printing.specs.Printing.{Prints, Printed}
 use Rattle.output.proofs.Calling.{refused_from, size-most}
 use Rattle.records.specs.declared.refusals.Reason.TheVariants.{LogBufferShort, SystemTooLong}
+use Rattle.std.proofs.lemmas.Bool.{cases_Bool}
 
 -- a length over 1,088 is refused with 2
 long_refused : (n : ℕ) → 1088 < n → input_rules n ≡ refusal SystemTooLong 0
@@ -60,7 +61,7 @@ module _ (input kept : List ℕ) (size : ℕ) (holds : Holds input kept size) (r
   output_of_lem : CountOf (length input) size → output_from kept size ≡ Some (program_output input)
   unfolding output_from
   output_of_lem (inl e) =
-      elim (bool_cases (leb size 1088)) [
+      elim (cases_Bool (leb size 1088)) [
         | inl short ↦
             let few : size ≤ 1088 = leb-true size 1088 short in
             rw (le-leb size (length kept) (omega arith)) (ap (λ (l : List ℕ). Some (program_output l)) (same-input e few))

@@ -21,13 +21,6 @@ pub fn print(kept: &[u8], size: usize, out: &mut [u8]) -> Result<usize, Unprinte
     ensures out { out.new ≡ printed_buffer (output_from kept.now size) out.old }
     ensures means { (input : List ℕ) → Holds input kept.now size → 1088 ≤ length kept.now → 66704 ≤ length out.old → PrintMeans input out.old result out.new }
 {
-    print_input(kept, size, out)
-}
-
-// The same, by the definitions of the answer and of the buffer alone.
-fn print_input(kept: &[u8], size: usize, out: &mut [u8]) -> Result<usize, Unprinted>
-    ensures { Prints (output_from kept.now size) out.old result out.new }
-{
     let Err(refusal) = check_input(size) else {
         return print_kept(kept, size, out);
     };
@@ -35,6 +28,7 @@ fn print_input(kept: &[u8], size: usize, out: &mut [u8]) -> Result<usize, Unprin
 }
 
 // Refusals 6, 2 and 1 by the length of the input.
+#[tactic(auto, unfolding(crate::specs::Output::input_rules))]
 fn check_input(size: usize) -> Result<(), Refusal>
     ensures { result ≡ input_rules size }
 {
@@ -46,11 +40,7 @@ fn check_input(size: usize) -> Result<(), Refusal>
     let Ok(()) = short else {
         return short;
     };
-    let even = check_that(size % RECORD == 0, Reason::SystemUneven, 0);
-    let Ok(()) = even else {
-        return even;
-    };
-    Ok(())
+    check_that(size % RECORD == 0, Reason::SystemUneven, 0)
 }
 
 // Prints the answer to an input whose length is not refused, where all of it was kept.

@@ -10,12 +10,12 @@ use Rattle.words.specs.Words.{freely_reduce, inverse, signed}
 use Rattle.words.proofs.Alphabet.{byte_laws}
 use Rattle.words.proofs.FreeReduction.{freely_reduce_both, freely_reduce_twice}
 use Rattle.words.proofs.Inverse.{freely_reduce-inverse}
-use Rattle.systems.proofs.Logic.{and_left, and_right, bool_cases}
 use Rattle.syntax.specs.Trees.{Power, Product, bracket, group, letter, nothing, plain, raised}
 use Rattle.syntax.specs.TreeWords.{commutator, factor_measured, measured, measured_after, number_of, powered, times, tree_word}
 use Rattle.syntax.specs.Rules.{all_short, fits, short}
 use Rattle.powers.specs.Bounded.{join_of, within}
 use Rattle.parsing.specs.Reading.{powered_of, read_after}
+use Rattle.std.proofs.lemmas.Bool.{and_parts, cases_Bool}
 
 abbrev free : List ℕ → List ℕ
 free w = freely_reduce bytes w
@@ -76,7 +76,7 @@ powered_some (raised minus d) f h = within_same (powered (raised minus d) (free 
 
 short-append : (us vs : List (List ℕ)) → all_short (us ++ vs) ≡ (all_short us && all_short vs)
 short-append [] vs = refl
-short-append (w ∷ us) vs = elim (bool_cases (short w)) [
+short-append (w ∷ us) vs = elim (cases_Bool (short w)) [
   | inl e ↦ rw e (short-append us vs)
   | inr e ↦ rw e
 ]
@@ -92,11 +92,11 @@ module _ (w : List ℕ) (p : Power) (t : Product)
       ≡ only_if (all_short (factor_measured w p f ++ measured_after (w ++ powered p f) t)) (free (w ++ (powered p f ++ tree_word t)))
   factor_says f h =
       let g : List ℕ = powered p f in
-      elim (bool_cases (short g)) [
+      elim (cases_Bool (short g)) [
         | inr a ↦ rw (powered_some p f h, within_no g a, h, a) (read_none t)
         | inl a ↦
             let j : within (free w ++ free g) ≡ within (w ++ g) = within_same (free w ++ free g) (w ++ g) (free_append w g) in
-            elim (bool_cases (short (w ++ g))) [
+            elim (cases_Bool (short (w ++ g))) [
               | inr b ↦ rw (powered_some p f h, within_yes g a, j, within_no (w ++ g) b, h, a, b) (read_none t)
               | inl b ↦ rw (powered_some p f h, within_yes g a, j, within_yes (w ++ g) b, h, a, b, ← append_assoc w g (tree_word t)) (ih (w ++ g) b)
             ]
@@ -111,11 +111,11 @@ module _ (w : List ℕ) (p : Power) (f : List ℕ) (t : Product) where
       → all_short (factor_measured w p f ++ more) ≡ true → short (w ++ (powered p f ++ tree_word t)) ≡ true
   factor_whole ih e =
       let b : Bool = short (w ++ powered p f) in
-      let r = and_right (short (powered p f)) (b && all_short more) (and_right (short f) (short (powered p f) && (b && all_short more)) e) in
-      rw (← append_assoc w (powered p f) (tree_word t)) (ih (w ++ powered p f) (and_left b (all_short more) r) (and_right b (all_short more) r))
+      let r = (and_parts (short (powered p f)) (b && all_short more) (and_parts (short f) (short (powered p f) && (b && all_short more)) e).1).1 in
+      rw (← append_assoc w (powered p f) (tree_word t)) (ih (w ++ powered p f) (and_parts b (all_short more) r).0 (and_parts b (all_short more) r).1)
 
 after-short : (us vs : List (List ℕ)) → all_short (us ++ vs) ≡ true → all_short vs ≡ true
-after-short us vs e = and_right (all_short us) (all_short vs) (sym (short-append us vs) ∙ e)
+after-short us vs e = (and_parts (all_short us) (all_short vs) (sym (short-append us vs) ∙ e)).1
 
 whole-short : (t : Product) (w : List ℕ) → short w ≡ true → all_short (measured_after w t) ≡ true → short (w ++ tree_word t) ≡ true
 whole-short nothing w h e = rw append-nil h
@@ -128,7 +128,7 @@ whole-short (bracket u v p t) w h e =
 read_says : (t : Product) (w : List ℕ) → short w ≡ true → read_after (Some (free w)) t ≡ only_if (all_short (measured_after w t)) (free (w ++ tree_word t))
 read_says nothing w h = rw append-nil
 read_says (letter x p t) w h = factor_says w p t (read_says t) (x ∷ []) refl
-read_says (group u p t) w h = elim (bool_cases (all_short (measured u))) [
+read_says (group u p t) w h = elim (cases_Bool (all_short (measured u))) [
   | inr a ↦ rw (read_says u [] refl, short-append, a) (factor_none w p t (read_says t))
   | inl a ↦ rw (read_says u [] refl, short-append, a) (factor_says w p t (read_says t) (tree_word u) (whole-short u [] refl a))
 ]
@@ -136,11 +136,11 @@ read_says (bracket u v p t) w h =
     let f : List ℕ = commutator (tree_word u) (tree_word v) in
     let c : within (commutator (free (tree_word u)) (free (tree_word v))) ≡ within f =
     within_same (commutator (free (tree_word u)) (free (tree_word v))) f (free_commutator (tree_word u) (tree_word v)) in
-    elim (bool_cases (all_short (measured u))) [
+    elim (cases_Bool (all_short (measured u))) [
       | inr a ↦ rw (read_says u [] refl, short-append, a) (factor_none w p t (read_says t))
-      | inl a ↦ elim (bool_cases (all_short (measured v))) [
+      | inl a ↦ elim (cases_Bool (all_short (measured v))) [
         | inr b ↦ rw (read_says u [] refl, read_says v [] refl, short-append, short-append, a, b) (factor_none w p t (read_says t))
-        | inl b ↦ elim (bool_cases (short f)) [
+        | inl b ↦ elim (cases_Bool (short f)) [
           | inr s ↦ rw (read_says u [] refl, read_says v [] refl, short-append, short-append, a, b, c, within_no f s, s) (factor_none w p t (read_says t))
           | inl s ↦ rw (read_says u [] refl, read_says v [] refl, short-append, short-append, a, b, c, within_yes f s) (factor_says w p t (read_says t) f s)
         ]

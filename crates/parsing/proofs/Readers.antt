@@ -16,24 +16,21 @@ use Rattle.powers.specs.Bounded.{commute_of, join_of}
 use Rattle.scanning.specs.Exponents.{exponent_of}
 use Rattle.parsing.specs.Reading.{FactorReads, PowerReads, ProductReads, ReadAll, ReadFirst, Readable, StartsWith, Stops, first_size, first_word, read_after, starts_factor}
 use Rattle.parsing.specs.declared.Reading.{Reading}
-use Rattle.systems.proofs.Logic.{true_not_false}
-use Rattle.words.proofs.Buffers.{rest_part}
 use Rattle.syntax.proofs.Bytes.{letter_no_digit, letter_no_sign}
 use Rattle.syntax.proofs.Parsing.{Quiet}
 use Rattle.parsing.proofs.Exponents.{exponent_for_lem, exponent_for, number_for, raise_for, size_for}
+use Rattle.std.proofs.lemmas.Bool.{both_ways}
+use Rattle.std.proofs.lemmas.List.{take_rest}
 
 -- three times the length of a text bounds the readers' calls, with one more for the factor's and two for the product's
 shorter : (s : List ℕ) (k n t : ℕ) → 0 < length s → 0 < k → length s * 3 ≤ t → n < 3 → length (take (length s - k) (drop k s)) * 3 + n < t
-shorter s k n t h l e m = rw rest_part (omega (arith, length-drop k s))
+shorter s k n t h l e m = rw take_rest (omega (arith, length-drop k s))
 
 pub product_calls : (s : List ℕ) (k t : ℕ) → length s * 3 + 2 ≡ t → length (take (length s - k) (drop k s)) * 3 + 1 < t
-product_calls s k t e = rw rest_part (omega (arith, length-drop k s))
+product_calls s k t e = rw take_rest (omega (arith, length-drop k s))
 
 pub factor_calls : (s : List ℕ) (t : ℕ) → 0 < length s → length s * 3 + 1 ≡ t → length (take (length s - 1) (drop 1 s)) * 3 + 2 < t
 factor_calls s t h e = shorter s 1 2 t h (omega arith) (omega arith) (omega arith)
-
-pub factor_hands_on : (s : List ℕ) (t : ℕ) → length s * 3 + 1 ≡ t → length s * 3 < t
-factor_hands_on s t e = omega arith
 
 pub opens_full : (s : List ℕ) → get_or s 0 0 ≡ 91 → 0 < length s
 opens_full [] e = absurd (omega arith)
@@ -134,7 +131,7 @@ starts_full : (room : ℕ) (b : ℕ) (s : List ℕ) (t : Product) (rest : List �
 starts_full room b s nothing [] h e = cc h.same
 starts_full room b s nothing (x ∷ rest) h e =
     let z : b ≡ x = cc h.same in
-    absurd (true_not_false _ (rw z at e) h.stops.0)
+    absurd (both_ways _ h.stops.0 (rw z at e))
 starts_full room b s (letter x p t) rest h e = tt
 starts_full room b s (group u p t) rest h e = tt
 starts_full room b s (bracket u v p t) rest h e = tt
@@ -144,13 +141,13 @@ starts_none : (room : ℕ) (b : ℕ) (s : List ℕ) (t : Product) (rest : List �
 starts_none room b s nothing rest h e = refl
 starts_none room b s (letter x p t) rest h e =
     let z : b ≡ x = cc h.same in
-    absurd (true_not_false _ (rw h.proper.0 refl) (rw z at e))
+    absurd (both_ways _ (rw z at e) (rw h.proper.0 refl))
 starts_none room b s (group u p t) rest h e =
     let z : b ≡ 40 = cc h.same in
-    absurd (true_not_false _ refl (rw z at e))
+    absurd (both_ways _ (rw z at e) refl)
 starts_none room b s (bracket u v p t) rest h e =
     let z : b ≡ 91 = cc h.same in
-    absurd (true_not_false _ refl (rw z at e))
+    absurd (both_ways _ (rw z at e) refl)
 
 -- what is left of a product: the tree of it, and that the whole is the answer from here on
 pub record Onward (room : ℕ) (text : List ℕ) (word : Option (List ℕ)) (at : ℕ) (t : Product) (rest : List ℕ) : Type 0 where
@@ -163,14 +160,6 @@ pub record ProductKept (room : ℕ) (text : List ℕ) (word : Option (List ℕ))
   pub inside : at ≤ length text
   pub readable : Readable room text
   pub onward : (t : Product) (rest : List ℕ) → StartsWith room text t rest → Onward room text word at t rest
-
-pub kept_first : (room : ℕ) (text : List ℕ) {word : Option (List ℕ)} → Readable room text → word ≡ Some [] → ProductKept room text word 0
-kept_first room text r e =
-    record {
-      inside = omega arith;
-      readable = r;
-      onward = λ t rest h. record { tree = t; starts = h; used = omega arith; same = rw e refl };
-    }
 
 -- a place of the text, and the byte there
 module _ (room : ℕ) (text : List ℕ) (word : Option (List ℕ)) (at : ℕ) (kept : ProductKept room text word at) (inside : at < length text) where
@@ -198,17 +187,17 @@ module _ (room : ℕ) (text : List ℕ) (word : Option (List ℕ)) (at : ℕ) (k
     factor_readable =
         let q = kept.readable in
         let o = kept.onward q.tree q.rest q.starts in
-        rw rest_part (record { tree = o.tree; rest = q.rest; starts = o.starts })
+        rw take_rest (record { tree = o.tree; rest = q.rest; starts = o.starts })
 
     pub factor_full : 0 < length (take (length text - at) (drop at text))
-    factor_full = rw (rest_part) (omega (arith, length-drop at text))
+    factor_full = rw (take_rest) (omega (arith, length-drop at text))
 
     pub factor_starts : starts_factor (get_or (take (length text - at) (drop at text)) 0 0) ≡ true
-    factor_starts = rw (rest_part, drop-cons text at 0 inside) (sym p ∙ e)
+    factor_starts = rw (take_rest, drop-cons text at 0 inside) (sym p ∙ e)
 
     module _ (next : Reading) (reads : FactorReads room (take (length text - at) (drop at text)) next) where
       first_read : (t : Product) (rest : List ℕ) (h : StartsWith room text t rest) → ReadFirst (kept.onward t rest h).tree next
-      first_read t rest h = reads (kept.onward t rest h).tree rest (rw rest_part (kept.onward t rest h).starts)
+      first_read t rest h = reads (kept.onward t rest h).tree rest (rw take_rest (kept.onward t rest h).starts)
 
       pub factor_inside : at + next.used ≤ length text
       factor_inside =
@@ -345,7 +334,7 @@ module _ (text : List ℕ) (full : 0 < length text) (begins : starts_factor (get
   group_here room nothing rest h e = absurd (starts_full room (get_or text 0 0) (drop 1 text) nothing rest (rw here at h) begins)
   group_here room (letter x p t) rest h e =
       let z : x ≡ 40 = sym (ap (λ (s : List ℕ). get_or s 0 0) h.same) ∙ e in
-      absurd (true_not_false _ h.proper.0 (rw z refl))
+      absurd (both_ways _ (rw z refl) h.proper.0)
   group_here zero (group u p t) rest h e = absurd h.nests
   group_here (suc n) (group u p t) rest h e =
       let m : suc n - 1 ≡ n = omega arith in
@@ -372,7 +361,7 @@ module _ (text : List ℕ) (full : 0 < length text) (begins : starts_factor (get
   bracket_here room nothing rest h e = absurd (starts_full room (get_or text 0 0) (drop 1 text) nothing rest (rw here at h) begins)
   bracket_here room (letter x p t) rest h e =
       let z : x ≡ 91 = sym (ap (λ (s : List ℕ). get_or s 0 0) h.same) ∙ e in
-      absurd (true_not_false _ h.proper.0 (rw z refl))
+      absurd (both_ways _ (rw z refl) h.proper.0)
   bracket_here room (group u p t) rest h e =
       let z : ◌≡◌ {A = ℕ} 40 91 = sym (ap (λ (s : List ℕ). get_or s 0 0) h.same) ∙ e in
       absurd (omega arith)
@@ -432,13 +421,13 @@ module _ (room : ℕ) (text : List ℕ) (full : 0 < length text) (begins : start
     pub group_readable : Readable room text → Readable (room - 1) (take (length text - 1) (drop 1 text))
     group_readable r =
         let g = group_here text full begins room r.tree r.rest r.starts opens in
-        rw rest_part (record { tree = g.inner; rest = g.after_it; starts = g.starts })
+        rw take_rest (record { tree = g.inner; rest = g.after_it; starts = g.starts })
 
     module _ (inner : Reading) (reads : ProductReads (room - 1) (take (length text - 1) (drop 1 text)) inner) where
       group_read : (t : Product) (rest : List ℕ) (h : StartsWith room text t rest) → ReadAll (group_here text full begins room t rest h opens).inner inner
       group_read t rest h =
           let g = group_here text full begins room t rest h opens in
-          reads g.inner g.after_it (rw rest_part g.starts)
+          reads g.inner g.after_it (rw take_rest g.starts)
 
       pub group_end : Readable room text → inner.used + 2 ≤ length text
       group_end r =
@@ -471,13 +460,13 @@ module _ (room : ℕ) (text : List ℕ) (opens : get_or text 0 0 ≡ 91) where
   pub bracket_readable : Readable room text → Readable (room - 1) (take (length text - 1) (drop 1 text))
   bracket_readable r =
       let g = bracket_at r.tree r.rest r.starts in
-      rw rest_part (record { tree = g.one; rest = g.after_one; starts = g.starts })
+      rw take_rest (record { tree = g.one; rest = g.after_one; starts = g.starts })
 
   module _ (u : Reading) (reads : ProductReads (room - 1) (take (length text - 1) (drop 1 text)) u) where
     one_read : (t : Product) (rest : List ℕ) (h : StartsWith room text t rest) → ReadAll (bracket_at t rest h).one u
     one_read t rest h =
         let g = bracket_at t rest h in
-        reads g.one g.after_one (rw rest_part g.starts)
+        reads g.one g.after_one (rw take_rest g.starts)
 
     pub bracket-middle : Readable room text → u.used + 2 ≤ length text
     bracket-middle r =
@@ -487,13 +476,13 @@ module _ (room : ℕ) (text : List ℕ) (opens : get_or text 0 0 ≡ 91) where
     pub bracket_readable_too : Readable room text → Readable (room - 1) (take (length text - (u.used + 2)) (drop (u.used + 2) text))
     bracket_readable_too r =
         let g = bracket_at r.tree r.rest r.starts in
-        rw (rest_part, (one_read r.tree r.rest r.starts).used) (record { tree = g.two; rest = g.after_two; starts = g.starts_too })
+        rw (take_rest, (one_read r.tree r.rest r.starts).used) (record { tree = g.two; rest = g.after_two; starts = g.starts_too })
 
     module _ (v : Reading) (reads-too : ProductReads (room - 1) (take (length text - (u.used + 2)) (drop (u.used + 2) text)) v) where
       two_read : (t : Product) (rest : List ℕ) (h : StartsWith room text t rest) → ReadAll (bracket_at t rest h).two v
       two_read t rest h =
           let g = bracket_at t rest h in
-          reads-too g.two g.after_two (rw (rest_part, (one_read t rest h).used) g.starts_too)
+          reads-too g.two g.after_two (rw (take_rest, (one_read t rest h).used) g.starts_too)
 
       pub bracket_end : Readable room text → u.used + 2 + v.used + 1 ≤ length text
       bracket_end r =

@@ -1,4 +1,4 @@
--- What the product reader and the factor reader find at the beginning of a text. No public contract speaks of it.
+-- What the product reader and the factor reader find at the beginning of a text. No call's contract speaks of it.
 use Rattle.std.specs.Prelude.{◌+◌, ℕ, ◌≡◌, Bool, ◌||◌, false, List, [], ◌++◌, ◌∷◌, None, Some, eqb, drop, length}
 use Rattle.std.specs.Prelude.{Option, Some}
 use Rattle.records.specs.Records.{is_letter}

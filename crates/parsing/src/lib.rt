@@ -28,7 +28,7 @@ pub fn product(text: &[u8], room: usize) -> Reading
     let mut at = 0;
     while at < text.len() && starts(text[at]) {
         let next = factor(&text[at..], room);
-        word = append(word, next.word);
+        append(&mut word, &next.word);
         at += next.used;
     }
     Reading { word, used: at }

@@ -31,23 +31,30 @@ kept_of : (w : List ℕ) {p : List ℕ} {r : Option (List ℕ)} → p ≡ freely
 unfolding within
 kept_of w e kept = kept ∙ rw (e, freely_reduce_twice bytes byte_laws w)
 
+-- and a product that is short before it is freely reduced
+product_short : (w : List ℕ) {p : List ℕ} → p ≡ freely_reduce bytes w → length p ≤ 63 → Some p ≡ within w
+product_short w e h = kept_of w e (kept_short _ (ap (freely_reduce bytes) e ∙ freely_reduce_twice bytes byte_laws w ∙ sym e) h)
+
 -- one more factor
 pushed_on : (u v : List ℕ) {p q : List ℕ} → p ≡ freely_reduce bytes u → q ≡ freely_reduce bytes (p ++ v) → q ≡ freely_reduce bytes (u ++ v)
 pushed_on u v e f = f ∙ ap (λ (l : List ℕ). freely_reduce bytes (l ++ v)) e ∙ sym (freely_reduce_left bytes byte_laws u v)
 
 -- two words, one after the other, and their commutator
-module _ {a b r : Option (List ℕ)} (u v : List ℕ) (first : a ≡ Some u) (second : b ≡ Some v) where
-  pub joined : {y p q : List ℕ} → y ≡ v → p ≡ u → q ≡ freely_reduce bytes (p ++ y) → r ≡ within q → r ≡ join_of a b
-  joined k e f kept = rw (first, second) (kept_of (u ++ v) (f ∙ rw (e, k) refl) kept)
+module _ {a b : Option (List ℕ)} (u v : List ℕ) (first : a ≡ Some u) (second : b ≡ Some v) where
+  pub joined : {r : Option (List ℕ)} {p q : List ℕ} → p ≡ u → q ≡ freely_reduce bytes (p ++ v) → r ≡ within q → r ≡ join_of a b
+  joined e f kept = rw (first, second) (kept_of (u ++ v) (f ∙ rw e refl) kept)
 
-  pub commuted : {w x y z n s t p q : List ℕ} → w ≡ u → x ≡ v → y ≡ u → z ≡ v → n ≡ []
-      → s ≡ freely_reduce bytes (n ++ inverse bytes w) → t ≡ freely_reduce bytes (s ++ inverse bytes x)
-      → p ≡ freely_reduce bytes (t ++ y) → q ≡ freely_reduce bytes (p ++ z) → r ≡ within q → r ≡ commute_of a b
-  commuted {q = q} i j k l o e f g h kept =
+  pub joined_short : {p : List ℕ} → p ≡ freely_reduce bytes (u ++ v) → length p ≤ 63 → Some p ≡ join_of a b
+  joined_short e h = rw (first, second) (product_short (u ++ v) e h)
+
+  pub commuted : {r : Option (List ℕ)} {n s t p q : List ℕ} → n ≡ [] → s ≡ freely_reduce bytes (n ++ inverse bytes u)
+      → t ≡ freely_reduce bytes (s ++ inverse bytes v) → p ≡ freely_reduce bytes (t ++ u) → q ≡ freely_reduce bytes (p ++ v)
+      → r ≡ within q → r ≡ commute_of a b
+  commuted {q = q} o e f g h kept =
       let both : List ℕ = inverse bytes u ++ inverse bytes v in
-      let two : _ = pushed_on (inverse bytes u) (inverse bytes v) (e ∙ rw (o, i) refl) (f ∙ rw j refl) in
+      let two : _ = pushed_on (inverse bytes u) (inverse bytes v) (e ∙ rw o refl) f in
       let made : q ≡ freely_reduce bytes (commutator u v) =
-      pushed_on (both ++ u) v (pushed_on both u two (g ∙ rw k refl)) (h ∙ rw l refl)
+      pushed_on (both ++ u) v (pushed_on both u two g) h
       ∙ ap (freely_reduce bytes) (append_assoc both u v ∙ append_assoc (inverse bytes u) (inverse bytes v) (u ++ v)) in
       rw (first, second) (kept_of (commutator u v) made kept)
 

@@ -1,4 +1,4 @@
--- Freely reduced words of at most 63 letters as values: products, powers and commutators of such words. No public contract speaks of it.
+-- Freely reduced words of at most 63 letters as values: products, powers and commutators of such words. No call's contract speaks of it.
 use Rattle.std.specs.Prelude.{ℕ, Bool, cond, List, ◌++◌, None, Option, Some, option_and_then}
 use Rattle.words.specs.Alphabet.{bytes}
 use Rattle.words.specs.Words.{freely_reduce, signed}

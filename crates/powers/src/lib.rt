@@ -31,16 +31,25 @@ fn kept<const ROOM: usize>(product: &Word<ROOM>) -> Option<Word<MOST>>
     Some(word)
 }
 
-// One word after the other.
-pub fn append(first: Option<Word<MOST>>, second: Option<Word<MOST>>) -> Option<Word<MOST>>
-    ensures { result ≡ join_of first second }
+// Puts one word after another: where the first one's buffer has room for both, in that buffer.
+pub fn append(first: &mut Option<Word<MOST>>, second: &Option<Word<MOST>>)
+    ensures { first.new ≡ join_of first.old second.now }
 {
-    let u = first?;
-    let v = second?;
+    let Some(u) = first else {
+        return;
+    };
+    let Some(v) = second else {
+        *first = None;
+        return;
+    };
+    if u.len() + v.len() <= MOST {
+        u.multiply(false, v);
+        return;
+    }
     let mut both = Word::<126>::new();
-    both.copy_from(&u);
-    both.multiply(false, v.letters());
-    kept(&both)
+    both.copy_from(u);
+    both.multiply(false, v);
+    *first = kept(&both);
 }
 
 // The inverse of u, the inverse of v, u, v.
@@ -50,10 +59,10 @@ pub fn commute(first: Option<Word<MOST>>, second: Option<Word<MOST>>) -> Option<
     let u = first?;
     let v = second?;
     let mut product = Word::<252>::new();
-    product.multiply(true, u.letters());
-    product.multiply(true, v.letters());
-    product.multiply(false, u.letters());
-    product.multiply(false, v.letters());
+    product.multiply(true, &u);
+    product.multiply(true, &v);
+    product.multiply(false, &u);
+    product.multiply(false, &v);
     kept(&product)
 }
 
@@ -65,7 +74,7 @@ pub fn raise(base: Option<Word<MOST>>, minus: bool, times: usize) -> Option<Word
     let word = base?;
     let mut power = Word::<4096>::new();
     for _ in 0..times {
-        power.multiply(minus, word.letters());
+        power.multiply(minus, &word);
     }
     kept(&power)
 }

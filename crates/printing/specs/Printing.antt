@@ -21,7 +21,7 @@ abbrev pub output_size : Option (List ℕ) → ℕ
 output_size None = 0
 output_size (Some text) = length text
 
--- an output is printed, and it has at most 66,704 bytes; no public contract speaks of it
+-- an output is printed, and it has at most 66,704 bytes; no call's contract speaks of it
 pub record Prints (output : Option (List ℕ)) (out : List ℕ) (answer : Printed) (out' : List ℕ) : Type 0 where
   pub answered : answer ≡ printed_answer output (length out)
   pub wrote : out' ≡ printed_buffer output out

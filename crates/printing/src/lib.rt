@@ -21,14 +21,13 @@ pub fn print_reduction(
     n: usize,
     words: &[u8],
     log: &[u8],
-    product: &[u8],
+    product: &[u8; RECORD],
     out: &mut [u8],
 ) -> Result<usize, Unprinted>
     requires slots { n ≤ 16 }
     requires words { n * 64 ≤ length words.now }
     requires moves { answer.moves * 4 ≤ length log.now }
     requires log { length log.now ≤ 65536 }
-    requires product { length product.now ≡ 64 }
     ensures { Prints (Some (lines_after (refusal_in answer.verdict) (answer_lines n answer words.now log.now product.now))) out.old result out.new }
 {
     let Err(refusal) = refusal_in(answer.verdict) else {

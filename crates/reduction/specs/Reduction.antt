@@ -14,7 +14,6 @@ use Rattle.moves.specs.Logs.{log_of}
 use Rattle.runs.specs.Runs.{room_for, stopped}
 use Rattle.reduction.specs.declared.answers.Reduction.{Reduction}
 use Rattle.reduction.specs.declared.answers.Tested.{Tested}
-use Rattle.reduction.specs.declared.reduce.Summary.{Summary}
 use Rattle.records.specs.declared.refusals.Reason.TheVariants.{LogBufferShort}
 use Rattle.std.specs.Prelude.{Err, Ok}
 use Rattle.records.specs.Refusals.{Checked}
@@ -64,9 +63,9 @@ module _ (s words log : List ℕ) where
   abbrev pub reduce_log : List ℕ
   reduce_log = log_after (system_room s (length words)) (freely_reduced_words s) (room_for log) log
 
--- what a reduction came to, with a verdict; no public contract speaks of it
-abbrev pub summed : Summary → Verdict → Reduction
-summed z v = record { verdict = v; moves = z.moves; rank = z.rank; independent = z.independent }
+-- the answer with a verdict, after so many moves that left the words T
+abbrev pub summed : Verdict → ℕ → List (List ℕ) → Reduction
+summed verdict moves T = record { verdict = verdict; moves = moves; rank = rank T; independent = none_blank T }
 
 -- under a refusal test says no. Only a failed check comes here.
 abbrev pub refused_test : Checked → Tested

@@ -1,8 +1,9 @@
 // What reduce and test answer.
 ghost use Rattle.std.specs.Prelude.{◌≡◌};
-ghost use Rattle.reduction.specs.Reduction.{refused_reduction, refused_test};
+ghost use Rattle.reduction.specs.Reduction.{refused_reduction, refused_test, summed};
 
 use records::answers::{Refusal, Verdict};
+use slots::system::System;
 
 // The answer of reduce and of member: the number of moves made, the rank, and whether the given words are independent.
 #[derive(Clone, Copy, Debug, PartialEq, Eq)]
@@ -18,6 +19,21 @@ pub struct Reduction {
 pub struct Tested {
     pub verdict: Verdict,
     pub reduced: bool,
+}
+
+impl Reduction {
+    // The answer of reduce and of member with a verdict, after so many moves that left a system.
+    pub fn of(verdict: Verdict, moves: usize, reduced: &System) -> Reduction
+        ensures { result ≡ summed verdict moves reduced.now }
+    {
+        let rank = reduced.rank();
+        Reduction {
+            verdict,
+            moves,
+            rank,
+            independent: rank == reduced.len(),
+        }
+    }
 }
 
 // The answer of reduce and of member where a test ended the call.

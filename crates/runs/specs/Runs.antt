@@ -1,9 +1,9 @@
 -- When a run has stopped, the moves that a log has room for, and what the search for the next move finds.
-use Rattle.std.specs.Prelude.{ℕ, ◌/◌, Bool, List, ◌≡◌, length}
-use Rattle.std.specs.Prelude.{Option, is_none}
+use Rattle.std.specs.Prelude.{ℕ, ◌/◌, Bool, cond, List, ◌≡◌, length}
+use Rattle.std.specs.Prelude.{Err, Ok, Option, Result, is_none}
 use Rattle.words.specs.Alphabet.{bytes}
 use Rattle.systems.specs.declared.Move.{Move}
-use Rattle.systems.specs.Rules.{next}
+use Rattle.systems.specs.Rules.{moves_within, next, run_within}
 use Rattle.moves.specs.Found.{FoundBelow}
 use Rattle.moves.specs.Logs.{move_size}
 
@@ -15,7 +15,11 @@ stopped S = is_none (next bytes S)
 abbrev pub room_for : List ℕ → ℕ
 room_for log = length log / move_size
 
--- what was found is the next move of n words; no public contract speaks of it
-pub record FoundNext (n : ℕ) (S : List (List ℕ)) (r : Option Move) : Type 0 where
+-- how many moves a run of at most so many makes, and whether neither rule applies after them
+abbrev pub ran : ℕ → List (List ℕ) → Result ℕ ℕ
+ran most S = cond (stopped (run_within bytes most S)) (Ok (length (moves_within bytes most S))) (Err (length (moves_within bytes most S)))
+
+-- what was found is the next move of a system's words; no call's contract speaks of it
+pub record FoundNext (S : List (List ℕ)) (r : Option Move) : Type 0 where
   pub found : r ≡ next bytes S
-  pub below : FoundBelow n r
+  pub below : FoundBelow (length S) r

@@ -1,4 +1,4 @@
--- The power at the beginning of a text as the struct that the readers use. No public contract speaks of it.
+-- The power at the beginning of a text as the struct that the readers use. No call's contract speaks of it.
 use Rattle.std.specs.Prelude.{◌+◌, ℕ, Bool, cond, false, true, List, [], ◌∷◌, None, Option, Some, eqb}
 use Rattle.syntax.specs.Trees.{is_digit}
 use Rattle.syntax.specs.TreeWords.{number_of}

@@ -1,4 +1,4 @@
--- How many more signs may stand open in a text. No public contract speaks of it.
+-- How many more signs may stand open in a text. No call's contract speaks of it.
 use Rattle.std.specs.Prelude.{◌+◌, suc, zero, ℕ, Bool, ◌||◌, cond, None, Option, Some, eqb}
 
 -- a byte opens a group or a bracket, or closes one

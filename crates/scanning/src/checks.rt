@@ -20,6 +20,7 @@ pub const DEEPEST: usize = 8;
 const LARGEST: usize = 63;
 
 // Refusals 16, 17 and 18.
+#[tactic(auto, unfolding(syntax::specs::Rules::text_rules))]
 pub fn check_text(text: &[u8]) -> Result<(), Refusal>
     ensures { result ≡ text_rules text.now }
 {

@@ -29,11 +29,11 @@ fn read_digits(text: &[u8], minus: bool, before: usize) -> Exponent
     ensures { result ≡ digits_exponent minus before text.now }
 {
     let (number, size) = match text {
-        [tens, ones, ..] if ones.is_ascii_digit() => (
-            digit_value(*tens) * 10 + digit_value(*ones),
+        [tens, ones @ b'0'..=b'9', ..] => (
+            usize::from(tens.saturating_sub(b'0')) * 10 + usize::from(*ones - b'0'),
             2,
         ),
-        [only, ..] => (digit_value(*only), 1),
+        [only, ..] => (usize::from(only.saturating_sub(b'0')), 1),
         [] => (0, 0),
     };
     let used = before + size;
@@ -42,12 +42,4 @@ fn read_digits(text: &[u8], minus: bool, before: usize) -> Exponent
         number,
         used,
     }
-}
-
-// The number that a digit writes.
-fn digit_value(b: u8) -> usize
-    ensures number { result ≡ b - 48 }
-    ensures small { result ≤ 255 }
-{
-    b.saturating_sub(b'0') as usize
 }

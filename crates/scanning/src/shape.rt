@@ -11,6 +11,7 @@ use syntax::{
 };
 
 // Refusal 16 but for the length: at the first byte with which no well-formed text can go on, or at the end.
+#[tactic(auto, unfolding(syntax::specs::Scan::shape_rule))]
 pub fn check_shape(text: &[u8]) -> Result<(), Refusal>
     requires { length text.now ≤ 256 }
     ensures { result ≡ shape_rule text.now }

@@ -1,10 +1,10 @@
 -- An input that is read part by part: what was taken of it is what is kept and counted.
 use Rattle.std.specs.Prelude.{IfSome, None, Option, Some}
 use Prim.Native.Nat.{ℕ}
-use mathlib.Core.List.{List, [], ◌++◌, append-nil, append_assoc}
+use mathlib.Core.List.{List, ◌++◌, append-nil, append_assoc}
 use mathlib.Core.Path.{◌∙◌, ◌≡◌, ap}
 use Rattle.std.specs.Io.KnownBytes.{Consumes, IsAtEnd}
-use Rattle.std.proofs.KnownBytes.{Consumes-nil, Consumes-trans}
+use Rattle.std.proofs.KnownBytes.{Consumes-trans}
 use Rattle.input.specs.Input.{Holds, ReadInput}
 
 -- these bytes were taken, and what is kept and counted afterwards holds them too
@@ -13,12 +13,7 @@ pub record Taken (left left' : Option (List ℕ)) (kept : List ℕ) (size : ℕ)
   pub consumed : Consumes left left' bytes
   pub held : (before : List ℕ) → Holds before kept size → Holds (before ++ bytes) kept' size'
 
--- at first none
-pub nothing_taken : (left : Option (List ℕ)) (kept : List ℕ) (size : ℕ) → Taken left left kept size kept size
-nothing_taken left kept size =
-    record { bytes = []; consumed = Consumes-nil left; held = λ before holds. rw append-nil holds }
-
--- and one more part
+-- one more part
 pub part_taken : {left left' left'' : Option (List ℕ)} {kept kept' kept'' : List ℕ} {size size' size'' : ℕ} (next : List ℕ)
     → Taken left left' kept size kept' size' → Consumes left' left'' next
     → ((before : List ℕ) → Holds before kept' size' → Holds (before ++ next) kept'' size'') → Taken left left'' kept size kept'' size''

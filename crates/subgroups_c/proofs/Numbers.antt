@@ -59,7 +59,7 @@ module _ (s t words log product words' log' product' : List ℕ) (wrote : words'
   member_in_turn = member_turns s t words log product (member_answer s t words log product) words' log' product' refl wrote logged gave
 
 pub read_meaning : (text word word' : List ℕ) → word' ≡ read_buffer text word → ReadMeans text word (read_answer text word) word'
-read_meaning text word word' wrote = read_means text word refl refl wrote
+read_meaning text word word' wrote = read_means text word refl wrote
 
 pub write_meaning : (word text text' : List ℕ) → text' ≡ write_buffer word text → WriteMeans word text (write_answer word text) text'
 write_meaning word text text' wrote = write_means word text refl wrote

@@ -11,7 +11,6 @@ use borrow.Author.Tests.{le-leb, leb-false, leb-true, lt-leb}
 use Rattle.records.specs.Records.{is_letter}
 use Rattle.records.specs.Refusals.{◌and_then◌, must, refusal}
 use Rattle.records.proofs.Chains.{fine_first, fine_next, must_fine}
-use Rattle.systems.proofs.Logic.{bool_cases}
 use Rattle.syntax.specs.Trees.{Digits, Power, Product, Proper, ProperDigits, ProperPower, Spells, bracket, group, is_digit, letter, nothing, one, plain, raised, spelled, spelled_digits, spelled_minus, spelled_power, two}
 use Rattle.syntax.specs.TreeWords.{number_of}
 use Rattle.syntax.specs.Limits.{FirstOver, NoneOver, Occurrence, after, bracket_size, caret, carets, carets_from, group_size, signs, signs_from}
@@ -24,6 +23,7 @@ use Rattle.records.specs.declared.refusals.Reason.TheVariants.{ExponentOutOfRang
 use Rattle.std.specs.Prelude.{Err, Ok}
 use Rattle.records.specs.Refusals.{Checked}
 use Rattle.records.specs.declared.refusals.Reason.{Reason}
+use Rattle.std.proofs.lemmas.Bool.{cases_Bool}
 
 -- the first occurrence whose number is over a limit is refused
 abbrev each_occurrence : Reason → ℕ → List Occurrence → Checked
@@ -77,7 +77,7 @@ module _ (why : Reason) (limit : ℕ) where
 
   occurrences_refused : (ms : List Occurrence) (k : ℕ) → (each ms ≡ refusal why k) ↔ FirstOver limit ms k
   occurrences_refused [] k = (λ e. passed_or e, λ x. absurd x)
-  occurrences_refused (m ∷ ms) k = elim (bool_cases (leb m.number limit)) [
+  occurrences_refused (m ∷ ms) k = elim (cases_Bool (leb m.number limit)) [
     | inl h ↦
         let l : m.number ≤ limit = leb-true m.number limit h in
         let (to, from) = occurrences_refused ms k in (

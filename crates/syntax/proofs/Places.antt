@@ -17,12 +17,12 @@ use Rattle.syntax.specs.declared.Open.{Open}
 use Rattle.syntax.specs.declared.Open.TheVariants.{First, Round, Second}
 use Rattle.syntax.specs.declared.Mode.{Mode}
 use Rattle.syntax.specs.declared.Mode.TheVariants.{After, Caret, Minus, OneDigit, Ready}
-use Rattle.systems.proofs.Logic.{bool_cases, true_not_false}
 use Rattle.syntax.proofs.Scanning.{Accepted, Between, after-step, after_stop, complete_between, spelled-accepted, step_close}
 use Rattle.syntax.proofs.Sound.{accepted_well_formed}
 use Rattle.records.specs.declared.refusals.Reason.TheVariants.{TextMalformed}
 use Rattle.std.specs.Prelude.{Err, Ok}
 use Rattle.records.specs.Refusals.{Checked}
+use Rattle.std.proofs.lemmas.Bool.{both_ways, cases_Bool}
 
 -- the state after one text and then another
 scan_on : (u v : List ℕ) (q q' : State) → state_after q u ≡ Some q' → state_after q (u ++ v) ≡ state_after q' v
@@ -115,7 +115,7 @@ pub scan_stop : (m : Mode) (s : List Open) (b : ℕ) (r : List ℕ) (k : ℕ) �
 scan_stop m s b r k e = rw e
 
 scan_says : (r : List ℕ) (q : State) (k : ℕ) → (Accepted q r × (scan q r k ≡ Ok tt)) ⊎ ((i : ℕ) × Stopped q r i × (scan q r k ≡ refusal TextMalformed (k + i)))
-scan_says [] q k = elim (bool_cases (complete q.mode q.opens)) [
+scan_says [] q k = elim (cases_Bool (complete q.mode q.opens)) [
   | inl h ↦ inl (record { last = q; reaches = refl; ends = h }, rw h)
   | inr h ↦ inr (0, record { within = omega arith; last = q; reaches = refl; there = λ x. absurd (omega arith); ends = λ x. h }, rw h (ap (refusal TextMalformed) (omega arith)))
 ]
@@ -165,7 +165,7 @@ stopped-malformed r i t =
             let e : take i r ≡ r = rw z (take-length r) in
             let a = well_formed-accepted r w in
             let k : t.last ≡ a.last = cc (sym t.reaches ∙ ap (state_after start) e ∙ a.reaches) in
-            true_not_false _ (rw k a.ends) (t.ends z)
+            both_ways _ (t.ends z) (rw k a.ends)
       ];
     }
 

@@ -12,7 +12,6 @@ use borrow.Author.Tests.{le-leb, leb-false, leb-true}
 use Rattle.records.specs.Refusals.{◌and_then◌, must, refusal}
 use Rattle.records.proofs.ByNumber.{Never, fine_never, must-given, must_never, never_then, other_never, then_first, then_next}
 use Rattle.records.proofs.Chains.{fine_first, fine_next, must_fine, must_pass}
-use Rattle.systems.proofs.Logic.{bool_cases}
 use Rattle.syntax.specs.Trees.{Product, Spells}
 use Rattle.syntax.specs.Meaning.{OutOfRangeAt, TooDeepAt, TooLongOrMalformed, WithinLimits}
 use Rattle.syntax.specs.Scan.{State, complete, scan, shape_rule, start, step}
@@ -26,10 +25,11 @@ use Rattle.std.specs.Prelude.{Ok}
 use Rattle.records.specs.Refusals.{Checked}
 use Rattle.records.specs.Reasons.{number_of}
 use Rattle.records.specs.declared.refusals.Reason.{Reason}
+use Rattle.std.proofs.lemmas.Bool.{cases_Bool}
 
 -- each test gives its own reason alone
 scan_never : (n : Reason) → (16 ≡ number_of n → ⊥) → (r : List ℕ) (q : State) (k : ℕ) → Never n (scan q r k)
-scan_never n h [] q k = elim (bool_cases (complete q.mode q.opens)) [
+scan_never n h [] q k = elim (cases_Bool (complete q.mode q.opens)) [
   | inl e ↦ rw e (fine_never n)
   | inr e ↦ rw e (other_never n TextMalformed k h)
 ]
@@ -45,7 +45,7 @@ shape_never n h text = scan_never n h text start 0
 
 nesting_never : (n : Reason) → (17 ≡ number_of n → ⊥) → (text : List ℕ) (room k : ℕ) → Never n (nesting_rule room text k)
 nesting_never n h [] room k = fine_never n
-nesting_never n h (b ∷ r) room k = elim (bool_cases (eqb b 40 || eqb b 91)) [
+nesting_never n h (b ∷ r) room k = elim (cases_Bool (eqb b 40 || eqb b 91)) [
   | inl e ↦ opened room e (nesting_never n h r)
   | inr e ↦ rw (e, nesting_rule) (nesting_never n h r (cond (eqb b 41 || eqb b 93) (suc room) room) (k + 1))
 ]
@@ -110,7 +110,7 @@ module _ (text : List ℕ) where
 
   pub text_16 : (k : ℕ) → (text_rules text ≡ refusal TextMalformed k) ↔ TooLongOrMalformed text k
   unfolding text_rules
-  text_16 k = elim (bool_cases (leb (length text) 256)) [
+  text_16 k = elim (cases_Bool (leb (length text) 256)) [
     | inl h ↦
         let l : length text ≤ 256 = leb-true (length text) 256 h in
         let (to, from) = shape_refused text k in

@@ -14,8 +14,8 @@ use Rattle.syntax.specs.declared.Open.{Open}
 use Rattle.syntax.specs.declared.Open.TheVariants.{First, Round, Second}
 use Rattle.syntax.specs.declared.Mode.{Mode}
 use Rattle.syntax.specs.declared.Mode.TheVariants.{After, Caret, Minus, OneDigit, Ready}
-use Rattle.systems.proofs.Logic.{bool_cases, true_not_false}
 use Rattle.syntax.proofs.Scanning.{Accepted, after-step, after_stop}
+use Rattle.std.proofs.lemmas.Bool.{both_ways, cases_Bool}
 
 -- a product, a sign, a power, and what follows
 record Closes (b : ℕ) (T : List ℕ → Type 0) (r : List ℕ) : Type 0 where
@@ -178,7 +178,7 @@ from_close Second s r g =
 
 from_closing : (b : ℕ) (s : List Open) (r : List ℕ) (q : State) → closing b s ≡ Some q → GoesFrom q r → Tail s (b ∷ r)
 from_closing b [] r q e g = cc e
-from_closing b (o ∷ s) r q e g = elim (bool_cases (eqb b (awaited o))) [
+from_closing b (o ∷ s) r q e g = elim (cases_Bool (eqb b (awaited o))) [
   | inl h ↦
       let z : Some (closed o s) ≡ Some q = rw h at e in
       let k : closed o s ≡ q = cc in
@@ -187,17 +187,17 @@ from_closing b (o ∷ s) r q e g = elim (bool_cases (eqb b (awaited o))) [
 ]
 
 from_product : (b : ℕ) (s : List Open) (r : List ℕ) (q : State) → step_product b s ≡ Some q → GoesFrom q r → Tail s (b ∷ r)
-from_product b s r q e g = elim (bool_cases (is_letter b)) [
+from_product b s r q e g = elim (cases_Bool (is_letter b)) [
   | inl h ↦
       let k : state After s ≡ q = cc (rw h at e) in
       let g' : GoesFrom (state After s) r = carry r k g in
       from_letter b s r h g'
-  | inr h ↦ elim (bool_cases (eqb b 40)) [
+  | inr h ↦ elim (cases_Bool (eqb b 40)) [
     | inl i ↦
         let k : state Ready (Round ∷ s) ≡ q = cc (rw (h, i) at e) in
         let g' : GoesFrom (state Ready (Round ∷ s)) r = carry r k g in
         rw (eqb-true b 40 i) (from_group s r g')
-    | inr i ↦ elim (bool_cases (eqb b 91)) [
+    | inr i ↦ elim (cases_Bool (eqb b 91)) [
       | inl j ↦
           let k : state Ready (First ∷ s) ≡ q = cc (rw (h, i, j) at e) in
           let g' : GoesFrom (state Ready (First ∷ s)) r = carry r k g in
@@ -236,19 +236,19 @@ from_minus b s r h g =
 -- one byte more
 from_step : (m : Mode) (s : List Open) (b : ℕ) (r : List ℕ) (q : State) → step m s b ≡ Some q → GoesFrom q r → Goes m s (b ∷ r)
 from_step Ready s b r q e g = from_product b s r q e g
-from_step After s b r q e g = elim (bool_cases (eqb b 94)) [
+from_step After s b r q e g = elim (cases_Bool (eqb b 94)) [
   | inl h ↦
       let k : state Caret s ≡ q = cc (rw h at e) in
       let g' : Signed s r = carry r k g in
       from_caret b s r (eqb-true b 94 h) g'
   | inr h ↦ record { power = plain; proper = tt; rest = b ∷ r; tail = from_product b s r q (rw h at e) g; same = refl }
 ]
-from_step Caret s b r q e g = elim (bool_cases (eqb b 45)) [
+from_step Caret s b r q e g = elim (cases_Bool (eqb b 45)) [
   | inl h ↦
       let k : state Minus s ≡ q = cc (rw h at e) in
       let g' : Numbered s r = carry r k g in
       from_minus b s r (eqb-true b 45 h) g'
-  | inr h ↦ elim (bool_cases (is_digit b)) [
+  | inr h ↦ elim (cases_Bool (is_digit b)) [
     | inl i ↦
         let k : state OneDigit s ≡ q = cc (rw (h, i) at e) in
         let g' : Tail s r ⊎ Digit s r = carry r k g in
@@ -257,14 +257,14 @@ from_step Caret s b r q e g = elim (bool_cases (eqb b 45)) [
     | inr i ↦ cc (rw (h, i) at e)
   ]
 ]
-from_step Minus s b r q e g = elim (bool_cases (is_digit b)) [
+from_step Minus s b r q e g = elim (cases_Bool (is_digit b)) [
   | inl i ↦
       let k : state OneDigit s ≡ q = cc (rw i at e) in
       let g' : Tail s r ⊎ Digit s r = carry r k g in
       from_digit b s r i g'
   | inr i ↦ cc (rw i at e)
 ]
-from_step OneDigit s b r q e g = elim (bool_cases (is_digit b)) [
+from_step OneDigit s b r q e g = elim (cases_Bool (is_digit b)) [
   | inl i ↦
       let k : state Ready s ≡ q = cc (rw i at e) in
       let g' : Tail s r = carry r k g in
@@ -277,10 +277,10 @@ from_end : (m : Mode) (s : List Open) → complete m s ≡ true → Goes m s []
 from_end Ready [] e = record { tree = nothing; spells = record { proper = tt; spelling = refl } }
 from_end After [] e =
     record { power = plain; proper = tt; rest = []; tail = record { tree = nothing; spells = record { proper = tt; spelling = refl } }; same = refl }
-from_end Caret [] e = absurd (true_not_false _ e refl)
-from_end Minus [] e = absurd (true_not_false _ e refl)
+from_end Caret [] e = absurd (both_ways _ refl e)
+from_end Minus [] e = absurd (both_ways _ refl e)
 from_end OneDigit [] e = inl (record { tree = nothing; spells = record { proper = tt; spelling = refl } })
-from_end m (o ∷ s) e = absurd (true_not_false _ e refl)
+from_end m (o ∷ s) e = absurd (both_ways _ refl e)
 
 accepted_goes : (r : List ℕ) (q : State) → Accepted q r → Goes q.mode q.opens r
 accepted_goes [] q a =

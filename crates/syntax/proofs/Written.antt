@@ -14,7 +14,6 @@ use Rattle.words.specs.Words.{freely_reduce, signed}
 use Rattle.words.proofs.Alphabet.{byte_laws, flip_down}
 use Rattle.words.proofs.FreeReduction.{length-freely_reduce}
 use Rattle.words.proofs.Inverse.{inverse_singleton}
-use Rattle.systems.proofs.Logic.{and_left, and_right, bool_cases, or_either}
 use Rattle.records.specs.Records.{is_letter}
 use Rattle.records.proofs.RoundTrip.{AllLetters}
 use Rattle.syntax.specs.Trees.{Digits, Power, Product, ProperDigits, ProperPower, Spells, is_digit, letter, nothing, one, plain, raised, spelled, spelled_digits, spelled_minus, spelled_power, two}
@@ -24,11 +23,12 @@ use Rattle.syntax.proofs.Limits.{none-nests, none-powers}
 use Rattle.syntax.specs.Meaning.{WithinLimits}
 use Rattle.syntax.specs.Rules.{all_short, fits, short}
 use Rattle.syntax.specs.WordTexts.{Maximal, Run, RunsOf, add_letter, numeral, run, run_text, runs, runs_text, small_of, text_of, unrolled}
+use Rattle.std.proofs.lemmas.Bool.{and_parts, cases_Bool, or_cases}
 
 letter_range : (x : ℕ) → is_letter x ≡ true → ((65 ≤ x) × (x ≤ 90)) ⊎ ((97 ≤ x) × (x ≤ 122))
-letter_range x h = elim (or_either (leb 65 x && leb x 90) (leb 97 x && leb x 122) h) [
-  | inl e ↦ inl (leb-true 65 x (and_left (leb 65 x) (leb x 90) e), leb-true x 90 (and_right (leb 65 x) (leb x 90) e))
-  | inr e ↦ inr (leb-true 97 x (and_left (leb 97 x) (leb x 122) e), leb-true x 122 (and_right (leb 97 x) (leb x 122) e))
+letter_range x h = elim (or_cases (leb 65 x && leb x 90) (leb 97 x && leb x 122) h) [
+  | inl e ↦ inl (leb-true 65 x (and_parts (leb 65 x) (leb x 90) e).0, leb-true x 90 (and_parts (leb 65 x) (leb x 90) e).1)
+  | inr e ↦ inr (leb-true 97 x (and_parts (leb 97 x) (leb x 122) e).0, leb-true x 122 (and_parts (leb 97 x) (leb x 122) e).1)
 ]
 
 small_letter : (y : ℕ) → 97 ≤ y → y ≤ 122 → is_letter y ≡ true
@@ -101,7 +101,7 @@ record Factor (r : Run) : Type 0 where
   within : r.count ≤ 63 → PowerWithin power
 
 factor_of_lem : (r : Run) → is_letter r.letter ≡ true → 1 ≤ r.count → r.count < 100 → Factor r
-factor_of_lem r h a b = elim (bool_cases (eqb r.count 1)) [
+factor_of_lem r h a b = elim (cases_Bool (eqb r.count 1)) [
   | inl e ↦
       let z : r.count ≡ 1 = eqb-true r.count 1 e in
       record {
@@ -145,7 +145,7 @@ Filled (r ∷ rs) = (is_letter r.letter ≡ true) × (1 ≤ r.count) × Filled r
 
 filled_add : (x : ℕ) (rs : List Run) → is_letter x ≡ true → Filled rs → Filled (add_letter x rs)
 filled_add x [] h f = (h, omega arith, tt)
-filled_add x (r ∷ rs) h f = elim (bool_cases (eqb x r.letter)) [
+filled_add x (r ∷ rs) h f = elim (cases_Bool (eqb x r.letter)) [
   | inl e ↦ rw e (h, omega arith, f.2)
   | inr e ↦ rw e (h, omega arith, f)
 ]
@@ -156,7 +156,7 @@ filled_runs (x ∷ w) h = filled_add x (runs w) h.0 (filled_runs w h.1)
 
 unrolled_add : (x : ℕ) (rs : List Run) → unrolled (add_letter x rs) ≡ x ∷ unrolled rs
 unrolled_add x [] = refl
-unrolled_add x (r ∷ rs) = elim (bool_cases (eqb x r.letter)) [
+unrolled_add x (r ∷ rs) = elim (cases_Bool (eqb x r.letter)) [
   | inl e ↦
       let z : x ≡ r.letter = eqb-true x r.letter e in
       let n : r.count + 1 ≡ suc r.count = omega arith in
@@ -254,7 +254,7 @@ runs-maximal (x ∷ w) = add_maximal (runs w) (runs-maximal w)
 
     add_maximal : (rs : List Run) → Maximal rs → Maximal (add_letter x rs)
     add_maximal [] m = omega arith
-    add_maximal (r ∷ rs) m = elim (bool_cases (eqb x r.letter)) [
+    add_maximal (r ∷ rs) m = elim (cases_Bool (eqb x r.letter)) [
       | inl e ↦ rw e (longer r rs (eqb-true x r.letter e) m)
       | inr e ↦ rw e (omega arith, eqb-false x r.letter e, m)
     ]

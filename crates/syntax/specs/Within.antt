@@ -1,4 +1,4 @@
--- The limits on nesting and exponents by the parts of a tree, without places. No public contract speaks of it.
+-- The limits on nesting and exponents by the parts of a tree, without places. No call's contract speaks of it.
 use Rattle.std.specs.Prelude.{◌≤◌, suc, zero, ℕ}
 use Rattle.syntax.specs.Trees.{Power, Product, bracket, group, letter, nothing, plain, raised}
 use Rattle.syntax.specs.TreeWords.{number_of}

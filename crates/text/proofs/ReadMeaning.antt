@@ -11,7 +11,6 @@ use borrow.Author.Tests.{leb-false, leb-true, lt-leb}
 use Rattle.words.specs.Alphabet.{bytes}
 use Rattle.words.specs.Words.{freely_reduce}
 use Rattle.words.specs.Buffers.{written}
-use Rattle.systems.proofs.Logic.{and_left, and_right, bool_cases, not_true_false, true_not_false}
 use Rattle.records.specs.Answers.{answer_of, refused_with}
 use Rattle.records.specs.Records.{record_of}
 use Rattle.records.specs.Refusals.{◌and_then◌, must, refusal}
@@ -31,12 +30,13 @@ use Rattle.syntax.specs.Rules.{all_short, fits, short, text_rules}
 use Rattle.syntax.proofs.Parsing.{one-tree, tree_of_lem}
 use Rattle.syntax.proofs.Refusing.{passed_text, text_16, text_17, text_18, text_never, text_passed}
 use Rattle.text.specs.Meaning.{Accepted, NoRoom, ReadMeans, WordTooLong}
-use Rattle.text.specs.Read.{read_buffer, read_rules, read_tests, text_word}
+use Rattle.text.specs.Read.{read_answer, read_buffer, read_rules, read_tests, text_word}
 use Rattle.records.specs.declared.refusals.Reason.TheVariants.{ExponentOutOfRange, NestingTooDeep, TextMalformed, WordTooLong as TooLong, WordsBufferShort}
 use Rattle.records.specs.declared.refusals.Reason.{Reason}
 use Rattle.records.specs.Reasons.{number_of}
 use Rattle.std.specs.Prelude.{Err, Ok}
 use Rattle.records.specs.Refusals.{Checked}
+use Rattle.std.proofs.lemmas.Bool.{and_parts, both_ways, cases_Bool, false_from_ne_true}
 
 pub through : {A B C : Type 0} → A ↔ B → B ↔ C → A ↔ C
 through (a, b) (c, d) = (λ z. c (a z), λ z. b (d z))
@@ -55,7 +55,7 @@ tests_of NotMember = Ok tt
 tests_of (Refused f) = Err f
 
 pub refused-done : (f : Refusal) → Refused f ≡ Done → ⊥
-refused-done f e = true_not_false true refl (sym (ap is_done e))
+refused-done f e = both_ways true (sym (ap is_done e)) refl
 
 pub verdict_done : (c : Checked) → ((answer_of c).verdict ≡ Done) ↔ (c ≡ Ok tt)
 verdict_done (Ok _) = (λ e. refl, λ e. refl)
@@ -69,13 +69,13 @@ verdict_refused (Err f) n k = (λ e. ap tests_of e, λ e. ap (λ (d : Checked). 
 all_short_lem : (ws : List (List ℕ)) → all_short ws ≡ true → SomeOver ws → ⊥
 all_short_lem [] e o = o
 all_short_lem (w ∷ ws) e o = elim o [
-  | inl l ↦ absurd (omega (arith, leb-true (length (freely_reduce bytes w)) 63 (and_left (short w) (all_short ws) e)))
-  | inr m ↦ all_short_lem ws (and_right (short w) (all_short ws) e) m
+  | inl l ↦ absurd (omega (arith, leb-true (length (freely_reduce bytes w)) 63 (and_parts (short w) (all_short ws) e).0))
+  | inr m ↦ all_short_lem ws (and_parts (short w) (all_short ws) e).1 m
 ]
 
 some_over : (ws : List (List ℕ)) → all_short ws ≡ false → SomeOver ws
-some_over [] e = absurd (true_not_false true refl e)
-some_over (w ∷ ws) e = elim (bool_cases (short w)) [
+some_over [] e = absurd (both_ways true e refl)
+some_over (w ∷ ws) e = elim (cases_Bool (short w)) [
   | inl s ↦ inr (some_over ws (rw s at e))
   | inr s ↦ inl (leb-false (length (freely_reduce bytes w)) 63 s)
 ]
@@ -84,12 +84,12 @@ pub fits_all : (t : Product) → (fits t ≡ true) ↔ (SomeOver (measured t) �
 unfolding fits
 fits_all t = (
   all_short_lem (measured t),
-  λ n. elim (bool_cases (all_short (measured t))) [ inl e ↦ e | inr e ↦ absurd (n (some_over (measured t) e)) ],
+  λ n. elim (cases_Bool (all_short (measured t))) [ inl e ↦ e | inr e ↦ absurd (n (some_over (measured t) e)) ],
 )
 
 fits_not : (t : Product) → (fits t ≡ false) ↔ SomeOver (measured t)
 unfolding fits
-fits_not t = (some_over (measured t), λ o. not_true_false (all_short (measured t)) (λ e. all_short_lem (measured t) e o))
+fits_not t = (some_over (measured t), λ o. false_from_ne_true (all_short (measured t)) (λ e. all_short_lem (measured t) e o))
 
 module _ (text word : List ℕ) where
   abbrev room : Checked
@@ -176,10 +176,9 @@ module _ (text word : List ℕ) where
   buffer_unchanged (Ok _) e n = absurd (n refl)
   buffer_unchanged (Err f) e n = rw e
 
-  pub read_means : {x : Checked} {answer : Answer} {word' : List ℕ} → x ≡ rules → answer ≡ answer_of x → word' ≡ read_buffer text word
-      → ReadMeans text word answer word'
-  read_means {x} {answer} {word'} e f g =
-      rw (f, e, g) (record {
+  pub read_means : {answer : Answer} {word' : List ℕ} → answer ≡ read_answer text word → word' ≡ read_buffer text word → ReadMeans text word answer word'
+  read_means f g =
+      rw (f, g) (record {
         done = through (verdict_done rules) rules_done;
         record' = λ d tree s. buffer_done tree s ((verdict_done rules).0 d);
         one_tree = one-tree text;

@@ -1,15 +1,15 @@
 -- The call write: its tests in their order, what they leave to the code after them, and the answer and the buffer from the text that it
 -- writes.
-use Prim.Native.Nat.{◌-◌, ◌≤◌, ℕ}
+use Prim.Native.Nat.{◌≤◌, ℕ}
 use mathlib.Core.Path.{◌∙◌, ◌≡◌, ap, sym}
 use mathlib.Core.List.{List}
 use native.Mathlib.Omega.{arith}
-use lib.ListN.{length, take}
+use lib.ListN.{length}
 use Rattle.words.specs.Buffers.{written}
-use Rattle.words.proofs.Buffers.{front_part}
 use Rattle.records.specs.Records.{word_of}
 use Rattle.records.specs.Refusals.{target_rules}
 use Rattle.records.specs.declared.answers.Refusal.{Refusal}
+use Rattle.records.specs.declared.answers.Verdict.TheVariants.{Done}
 use Rattle.records.proofs.Chains.{fine_first, fine_next}
 use Rattle.records.proofs.Targets.{target-sized}
 use Rattle.slots.specs.Refusals.{word_room}
@@ -29,9 +29,6 @@ module _ (word text : List ℕ) {x : Checked} (tests : x ≡ write_rules word (l
     unfolding write_rules
     passed_word = target-sized word (fine_first (target_rules word) (word_room 256 (length text)) (sym tests ∙ passed))
 
-    pub word_inside : (n : ℕ) → n ≤ 63 → n ≤ length word
-    word_inside n h = omega (arith, passed_word)
-
     passed_room : 256 ≤ length text
     unfolding write_rules
     passed_room = room_enough 256 (length text) (fine_next (target_rules word) (word_room 256 (length text)) (sym tests ∙ passed))
@@ -39,14 +36,9 @@ module _ (word text : List ℕ) {x : Checked} (tests : x ≡ write_rules word (l
     pub text_room : 128 ≤ length text
     text_room = omega (arith, passed_room)
 
-    module _ (n : ℕ) (is : take n word ≡ word_of word) where
-      word_is : take (n - 0) word ≡ word_of word
-      word_is = front_part word n ∙ is
+    module _ {w : List ℕ} (is : w ≡ word_of word) where
+      pub answer-done : (end : ℕ) → end ≡ length (text_of w) → record { verdict = Done; length = end } ≡ write_answer word text
+      answer-done end e = rw (sym tests ∙ passed) (ap (writing_of (Ok tt)) (e ∙ ap (λ (v : List ℕ). length (text_of v)) is))
 
-      pub answer-done : {answer : Writing} (end : ℕ) → end ≡ length (text_of (take (n - 0) word)) → answer ≡ writing_of x end → answer ≡ write_answer word text
-      answer-done end e told =
-          told ∙ ap (writing_of x) (e ∙ ap (λ (w : List ℕ). length (text_of w)) word_is)
-          ∙ ap (λ (c : Checked). writing_of c (length (text_of (word_of word)))) tests
-
-      pub text_written : {text' : List ℕ} → text' ≡ written (text_of (take (n - 0) word)) text → text' ≡ written (text_of (word_of word)) text
-      text_written e = e ∙ ap (λ (w : List ℕ). written (text_of w) text) word_is
+      pub text_written : {text' : List ℕ} → text' ≡ written (text_of w) text → text' ≡ written (text_of (word_of word)) text
+      text_written e = e ∙ ap (λ (v : List ℕ). written (text_of v) text) is

@@ -9,7 +9,7 @@ ghost use Rattle.text.specs.Write.{write_answer, write_buffer, write_rules, writ
 
 use parsing::product;
 use records::answers::{Answer, Refusal, Verdict, refuse};
-use records::record::{RECORD, check_target, word_length, write_record};
+use records::record::{RECORD, as_record, check_target, word_in, write_record};
 use records::refusals::Reason;
 use scanning::checks::{DEEPEST, check_text};
 use slots::checks::check_room;
@@ -25,34 +25,38 @@ pub struct Writing {
     pub length: usize,
 }
 
+// The answer of write where a test ended the call.
+impl From<Result<(), Refusal>> for Writing {
+    ghost from_gives = { λ checked answer. answer ≡ writing_of checked 0 };
+
+    fn from(checked: Result<(), Refusal>) -> Writing {
+        Writing {
+            verdict: Verdict::from(checked),
+            length: 0,
+        }
+    }
+}
+
 // Reads a text and writes the freely reduced word that it stands for as a record into the lent buffer.
 pub fn read(text: &[u8], word: &mut [u8]) -> Answer
     ensures answer { result ≡ read_answer text.now word.old }
     ensures word { word.new ≡ read_buffer text.now word.old }
     ensures means { ReadMeans text.now word.old result word.new }
 {
-    let checked = read_checked(text, word);
-    Answer::from(checked)
-}
-
-// Reads a text into the lent buffer where nothing is refused.
-fn read_checked(text: &[u8], word: &mut [u8]) -> Result<(), Refusal>
-    ensures checked { result ≡ read_rules text.now (length word.old) }
-    ensures word { word.new ≡ read_buffer text.now word.old }
-{
     let checked = check_read(text, word.len());
     let Ok(()) = checked else {
-        return checked;
+        return Answer::from(checked);
     };
     let found = product(text, DEEPEST);
     let Some(reduced) = found.word else {
-        return refuse(Reason::WordTooLong, 0);
+        return Answer::from(refuse(Reason::WordTooLong, 0));
     };
     write_record(reduced.letters(), &mut word[0..64]);
-    checked
+    Answer::from(checked)
 }
 
 // Refusals 16, 17, 18 and 10.
+#[tactic(auto, unfolding(crate::specs::Read::read_tests))]
 fn check_read(text: &[u8], room: usize) -> Result<(), Refusal>
     ensures { result ≡ read_tests text.now room }
 {
@@ -70,24 +74,19 @@ pub fn write(word: &[u8], text: &mut [u8]) -> Writing
     ensures means { WriteMeans word.now text.old result text.new }
     ensures read_back { ReadBack word.now result text.new }
 {
-    write_checked(word, text)
-}
-
-// Writes the word of a record as text where nothing is refused.
-fn write_checked(word: &[u8], text: &mut [u8]) -> Writing
-    ensures answer { result ≡ write_answer word.now text.old }
-    ensures text { text.new ≡ write_buffer word.now text.old }
-{
     let checked = check_write(word, text.len());
     let Ok(()) = checked else {
-        return writing_of(checked, 0);
+        return Writing::from(checked);
     };
-    let count = word_length(word);
-    let length = write_word(&word[0..count], text);
-    writing_of(checked, length)
+    let length = write_word(word_in(as_record(word)), text);
+    Writing {
+        verdict: Verdict::Done,
+        length,
+    }
 }
 
 // Refusals 6 and 10.
+#[tactic(auto, unfolding(crate::specs::Write::write_rules))]
 fn check_write(word: &[u8], room: usize) -> Result<(), Refusal>
     ensures { result ≡ write_rules word.now room }
 {
@@ -96,20 +95,4 @@ fn check_write(word: &[u8], room: usize) -> Result<(), Refusal>
         return targeted;
     };
     check_room(TEXT_ROOM, room)
-}
-
-// The answer of write, from what its tests found and the length of the text.
-fn writing_of(checked: Result<(), Refusal>, length: usize) -> Writing
-    ensures { result ≡ writing_of checked length }
-{
-    match checked {
-        Ok(()) => Writing {
-            verdict: Verdict::Done,
-            length,
-        },
-        Err(refusal) => Writing {
-            verdict: Verdict::Refused(refusal),
-            length: 0,
-        },
-    }
 }

@@ -1,18 +1,17 @@
 -- The runs of a word: the one that it begins with, and the text of the word, written run by run.
 use Rattle.std.proofs.Common.{◌*◌, ◌+◌, ◌-◌, ◌<◌, ◌≤◌, suc, zero, ℕ, ◌∙◌, ◌≡◌, ap, refl, sym, List, [], ◌++◌, ◌∷◌, append_assoc, append-nil, inl, inr, eqb, arith, drop, get_or, length, length-drop, take}
-use Rattle.std.proofs.lemmas.List.{nil_from_length}
+use Rattle.std.proofs.lemmas.List.{drop_more, nil_from_length, take_rest}
 use borrow.Author.Tests.{eq-eqb, ne_eqb}
 use Rattle.words.specs.Writers.{Puts}
 use Rattle.words.specs.declared.writer.Writer.{Writer}
-use Rattle.words.proofs.Buffers.{drop_here, rest_part}
 use Rattle.words.proofs.Writers.{puts_next}
-use Rattle.systems.proofs.Logic.{bool_cases}
 use Rattle.syntax.specs.WordTexts.{Run, add_letter, run, run_text, runs, runs_text, text_of}
+use Rattle.std.proofs.lemmas.Bool.{cases_Bool}
 
 -- a letter before a word that begins with another, and before one that begins with it so many times
 other_run : (x y : ℕ) (rs : List Run) → (y ≡ x → ⊥) → add_letter x (add_letter y rs) ≡ run x 1 ∷ add_letter y rs
 other_run x y [] d = rw (ne_eqb x y (λ e. d (sym e)))
-other_run x y (r ∷ rs) d = elim (bool_cases (eqb y r.letter)) [
+other_run x y (r ∷ rs) d = elim (cases_Bool (eqb y r.letter)) [
   | inl e ↦ rw (e, ne_eqb x y (λ e. d (sym e)))
   | inr e ↦ rw (e, ne_eqb x y (λ e. d (sym e)))
 ]
@@ -47,9 +46,9 @@ module _ (word rest : List ℕ) (start now : Writer) (here : WrittenTo word star
   text_more letter n after full is inside same longest puts most =
       let u : List ℕ = run_text (run letter (1 + n)) in
       let left : List ℕ = drop n others in
-      let split : rest ≡ letter ∷ others = rw (is, rest_part) (drop_here rest 0 (omega arith)) in
+      let split : rest ≡ letter ∷ others = rw (is, take_rest) (drop_more rest 0 0 (omega arith)) in
       let next : text_of rest ≡ u ++ text_of left = ap text_of split ∙ ap runs_text (first_run n letter others inside same longest) in
-      rw rest_part (record {
+      rw take_rest (record {
         front = here.front ++ u;
         puts = puts_next start now after here.front u (here.front ++ u) here.puts puts refl;
         whole = here.whole ∙ ap (◌++◌ here.front) next ∙ sym (append_assoc here.front u (text_of left));

@@ -1,6 +1,6 @@
 -- `asking::check_question` meets its contract: refusals 1 to 5, then 6.
 use borrow.Author.Rules.{rules}
-use Rattle.records.proofs.Chains.{then_end, then_failed, then_fine}
+use Rattle.records.proofs.Chains.{then_failed, then_fine}
 use Rattle.asking.specs.Asking.{question_rules}
 use Rattle.asking.proofs.check_question.Goals as goal
 
@@ -8,10 +8,6 @@ pub returns-in_default : goal.returns-in_default
 unfolding question_rules
 returns-in_default c = search (then_failed, rules)
 
-pub returns-in_default-targeted : goal.returns-in_default-targeted
-unfolding question_rules
-returns-in_default-targeted c = search (then_fine, rules)
-
 pub returns : goal.returns
 unfolding question_rules
-returns c = search (then_fine, then_end, rules)
+returns c = search (then_fine, rules)

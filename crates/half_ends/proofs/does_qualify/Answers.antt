@@ -1,16 +1,26 @@
 -- `half_ends::does_qualify` meets its contract: one law for each test.
 use borrow.Author.Rules.{rules}
-use Rattle.half_ends.proofs.HalfSearch.{unqualified_blank, unqualified_odd, unqualified_front, qualified_back}
+use Rattle.half_ends.proofs.HalfSearch.{qualified_back, unqualified_blank, unqualified_front, unqualified_odd}
 use Rattle.half_ends.proofs.does_qualify.Goals as goal
+use Rattle.half_ends.proofs.does_qualify.Goals.{else-size-eq0, else-size-ne0, then-size-eq0, then-size-ne0}
 
-pub returns-then-size-eq0 : goal.returns-then-size-eq0
-returns-then-size-eq0 c = search (unqualified_blank, rules)
+pub returns-then-half_elsewhere : goal.returns-then-half_elsewhere
+returns-then-half_elsewhere c = elim c.if-size-eq0.branch [
+  | then-size-eq0 v ↦ elim c.if-size-ne0.branch [
+    | then-size-ne0 w ↦ search (w.if-size-ne0.true, qualified_back, rules)
+    | else-size-ne0 w ↦ search rules
+  ]
+  | else-size-eq0 v ↦ search rules
+]
 
-pub returns-then-size-ne0 : goal.returns-then-size-ne0
-returns-then-size-ne0 c = search (unqualified_odd, rules)
-
-pub returns-then-not-front : goal.returns-then-not-front
-returns-then-not-front c = search (unqualified_front, rules)
-
-pub returns : goal.returns
-returns c = search (qualified_back, rules)
+pub returns-else-half_elsewhere : goal.returns-else-half_elsewhere
+returns-else-half_elsewhere c = elim c.if-size-eq0.branch [
+  | then-size-eq0 v ↦ elim c.if-size-ne0.branch [
+    | then-size-ne0 w ↦ search (w.if-size-ne0.true, unqualified_front, rules)
+    | else-size-ne0 w ↦ search rules
+  ]
+  | else-size-eq0 v ↦ elim c.if-size-ne0.branch [
+    | then-size-ne0 w ↦ search (w.if-size-ne0.true, unqualified_odd, rules)
+    | else-size-ne0 w ↦ search (unqualified_blank, rules)
+  ]
+]

@@ -1,7 +1,7 @@
 -- `membership::check_member` meets its contract: each way out is the first test of member_tests that fails,
 -- and the last way out passes them all.
 use borrow.Author.Rules.{rules}
-use Rattle.records.proofs.Chains.{then_end, then_failed, then_fine}
+use Rattle.records.proofs.Chains.{then_failed, then_fine}
 use Rattle.membership.specs.Membership.{member_tests}
 use Rattle.membership.proofs.check_member.Goals as goal
 
@@ -17,10 +17,6 @@ pub returns-in_default-roomy : goal.returns-in_default-roomy
 unfolding member_tests
 returns-in_default-roomy c = search (then_failed, then_fine, rules)
 
-pub returns-in_default-product_roomy : goal.returns-in_default-product_roomy
-unfolding member_tests
-returns-in_default-product_roomy c = search (then_failed, then_fine, rules)
-
 pub returns : goal.returns
 unfolding member_tests
-returns c = search (then_fine, then_end, rules)
+returns c = search (then_fine, rules)

@@ -1,7 +1,7 @@
 -- The product's calls the factor's at a part that may be the whole text, the factor's hands a bracket on with the whole text, and both of
 -- these call the product's at a shorter part.
 use borrow.Author.Rules.{rules}
-use Rattle.parsing.proofs.Readers.{bracket-before_end, bracket-middle, bracket-room, bracket_calls, bracket_calls_again, bracket_end, bracket_power, bracket_readable, bracket_readable_too, factor_calls, factor_full, factor_hands_on, factor_inside, factor_less, factor_readable, factor_starts, group-room, group_end, group_power, group_readable, kept_again, kept_first, letter_power, product_calls, read_all, read_bracket, read_end, read_group, read_letter, size_fits}
+use Rattle.parsing.proofs.Readers.{bracket-before_end, bracket-middle, bracket-room, bracket_calls, bracket_calls_again, bracket_end, bracket_power, bracket_readable, bracket_readable_too, factor_calls, factor_full, factor_inside, factor_less, factor_readable, factor_starts, group-room, group_end, group_power, group_readable, kept_again, letter_power, product_calls, read_all, read_bracket, read_end, read_group, read_letter, size_fits}
 use Rattle.parsing.proofs.+reader.Goals as goal
 use Rattle.parsing.proofs.+reader.Goals.{product-else-loop-at-test, product-then-loop-at-test+else-starts}
 
@@ -38,9 +38,6 @@ bracket-powered-requires t c = search (bracket_end, bracket_power, rules)
 pub bracket-returns : goal.bracket-returns
 bracket-returns t c = search (read_bracket, c.requires.opens, rules)
 
-pub factor-bracket-requires : goal.factor-bracket-requires
-factor-bracket-requires t c = (search (factor_hands_on, rules), search rules)
-
 pub factor-overflow_sub-room : goal.factor-overflow_sub-room
 factor-overflow_sub-room t c = search (group-room, rules)
 
@@ -61,9 +58,6 @@ factor-powered-requires-in_default t c = search (letter_power, rules)
 
 pub factor-returns-in_default : goal.factor-returns-in_default
 factor-returns-in_default t c = search (read_letter, rules)
-
-pub product-loop-at-init : goal.product-loop-at-init
-product-loop-at-init t c = search (kept_first, rules)
 
 pub product-factor-next-requires : goal.product-factor-next-requires
 product-factor-next-requires t c = (search (product_calls, rules), search (factor_readable, factor_full, factor_starts, rules))

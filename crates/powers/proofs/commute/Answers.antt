@@ -4,5 +4,5 @@ use Rattle.powers.proofs.commute.Goals as goal
 
 pub returns : goal.returns
 returns c =
-    commuted _ _ c.in_ok-u.was c.in_ok-v.was c.letters.ensures.letters c.letters-2.ensures.letters c.letters-3.ensures.letters c.letters-4.ensures.letters
-    c.new-product.ensures c.multiply.ensures.product c.multiply-2.ensures.product c.multiply-3.ensures.product c.multiply-4.ensures.product c.kept.ensures
+    commuted _ _ c.in_ok-u.was c.in_ok-v.was c.new-product.ensures c.multiply.ensures.product c.multiply-2.ensures.product
+    c.multiply-3.ensures.product c.multiply-4.ensures.product c.kept.ensures

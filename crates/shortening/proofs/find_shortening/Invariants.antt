@@ -1,18 +1,26 @@
-use Prim.Native.Nat.{◌≤◌}
-use mathlib.Core.Path.{◌≡◌}
-use lib.ListN.{get_or, length}
-use Rattle.inverses.specs.Inverses.{Inverted}
-use Rattle.shortening.proofs.Searching.{Changed, Others, Forms}
+use Rattle.std.proofs.Common.{None, ◌≡◌, ◌≤◌, length}
+use Rattle.words.specs.Alphabet.{bytes}
+use Rattle.systems.specs.Products.{word}
+use Rattle.shortening.proofs.Searching.{Changed, Forms, Others}
 use Rattle.shortening.proofs.find_shortening.Given as goal
 
 abbrev pub invariant-loop-form : goal.invariant-loop-form
 invariant-loop-form l =
-    Forms l.letters l.lengths l.marks l.n l.last l.k l.i l.end l.form l.most l.found × (l.whole ≡ get_or l.lengths l.k 0) × (l.size ≡ get_or l.lengths l.i 0) × (l.most ≤ 63) × (length l.marks ≡ 256) × Inverted l.n l.letters l.inverses l.lengths
+    record {
+      forms : Forms l.fn.search l.k l.i l.form-index l.most;
+      most_fits : l.most ≤ 63;
+      nothing : l.found ≡ None;
+      same : l.system ≡ l.fn.search;
+      sized : l.size ≡ length (word bytes l.fn.search l.i);
+    }
 
 abbrev pub invariant-loop-i : goal.invariant-loop-i
 invariant-loop-i l =
-    Others l.letters l.lengths l.marks l.n l.last l.k l.i l.end l.found × (l.whole ≡ get_or l.lengths l.k 0) × Inverted l.n l.letters l.inverses l.lengths
+    record {
+      same : l.search ≡ l.fn.search;
+      others : Others l.fn.search l.k l.i-iterator l.found;
+      whole : l.whole ≡ length (word bytes l.fn.search l.k);
+    }
 
 abbrev pub invariant-search : goal.invariant-search
-invariant-search l =
-    Changed l.letters l.lengths l.marks l.n l.last l.k l.found × Inverted l.n l.letters l.inverses l.lengths
+invariant-search l = record { same : l.search ≡ l.fn.search; changed : Changed l.fn.search l.k l.found }

@@ -1,29 +1,16 @@
--- `shortening::seam_of` meets its contract: one law for each form.
-use borrow.Author.Rules.{rules}
-use Rattle.slots.proofs.Holding.{count-short}
-use Rattle.shortening.proofs.Searching.{count-first, count_second, count_third, count_fourth}
+-- `shortening::seam_of` meets its contract: the words of each form are those whose beginnings are compared.
+use Rattle.std.proofs.Common.{rules}
+use Rattle.shortening.proofs.Counting.{held, held_inverse, seam_counted}
 use Rattle.shortening.proofs.seam_of.Goals as goal
 
-pub returns-then-form-eq1-clause-seam : goal.returns-then-form-eq1-clause-seam
-returns-then-form-eq1-clause-seam c = search (count_second, rules)
+pub returns-in-Before-clause-seam : goal.returns-in-Before-clause-seam
+returns-in-Before-clause-seam c = rw c.in-Before.is (search (seam_counted, held, held_inverse, rules))
 
-pub returns-then-form-eq1-clause-most : goal.returns-then-form-eq1-clause-most
-returns-then-form-eq1-clause-most c = search (count-short, rules)
+pub returns-in-InverseBefore-clause-seam : goal.returns-in-InverseBefore-clause-seam
+returns-in-InverseBefore-clause-seam c = rw c.in-InverseBefore.is (search (seam_counted, held, rules))
 
-pub returns-then-form-eq0-clause-seam : goal.returns-then-form-eq0-clause-seam
-returns-then-form-eq0-clause-seam c = search (count-first, rules)
+pub returns-in-After-clause-seam : goal.returns-in-After-clause-seam
+returns-in-After-clause-seam c = rw c.in-After.is (search (seam_counted, held, held_inverse, rules))
 
-pub returns-then-form-eq0-clause-most : goal.returns-then-form-eq0-clause-most
-returns-then-form-eq0-clause-most c = search (count-short, rules)
-
-pub returns-then-form-eq2-clause-seam : goal.returns-then-form-eq2-clause-seam
-returns-then-form-eq2-clause-seam c = search (count_third, rules)
-
-pub returns-then-form-eq2-clause-most : goal.returns-then-form-eq2-clause-most
-returns-then-form-eq2-clause-most c = search (count-short, rules)
-
-pub returns-clause-seam : goal.returns-clause-seam
-returns-clause-seam c = search (count_fourth, rules)
-
-pub returns-clause-most : goal.returns-clause-most
-returns-clause-most c = search (count-short, rules)
+pub returns-in-InverseAfter-clause-seam : goal.returns-in-InverseAfter-clause-seam
+returns-in-InverseAfter-clause-seam c = rw c.in-InverseAfter.is (search (seam_counted, held_inverse, rules))

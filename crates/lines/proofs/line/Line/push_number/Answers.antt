@@ -1,7 +1,0 @@
--- `lines::line::Line::push_number` meets its contract.
-use borrow.Author.Rules.{rules}
-use Rattle.lines.proofs.Texts.{decimal_is}
-use Rattle.lines.proofs.line.Line.push_number.Goals as goal
-
-pub returns-clause-text : goal.returns-clause-text
-returns-clause-text c = search (decimal_is, rules)

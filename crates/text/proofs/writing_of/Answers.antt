@@ -1,8 +1,0 @@
--- `text::writing_of` meets its contract.
-use Rattle.text.proofs.writing_of.Goals as goal
-
-pub returns-in-Ok : goal.returns-in-Ok
-returns-in-Ok c = cc
-
-pub returns-in-Err : goal.returns-in-Err
-returns-in-Err c = cc
