@@ -9,10 +9,12 @@ use native.Mathlib.Numerals.{add-one}
 use native.Mathlib.Omega.{arith}
 use Rattle.records.specs.Answers.{answer_of, on_fine}
 use Rattle.records.specs.declared.answers.Answer.{Answer}
+use Rattle.records.specs.declared.answers.Verdict.{Verdict}
+use Rattle.records.specs.declared.answers.Verdict.TheVariants.{Done, Member, NotMember, Refused}
+use mathlib.Core.Logic.{◌↔◌}
 use Rattle.records.specs.declared.answers.Refusal.{Refusal}
-use Rattle.records.specs.Refusals.{◌and_then◌, each_below, must, refusal}
+use Rattle.records.specs.Refusals.{◌and_then◌, each_below, must, refusal, Checked}
 use Rattle.std.specs.Prelude.{Err, Ok}
-use Rattle.records.specs.Refusals.{Checked}
 use Rattle.records.specs.declared.refusals.Reason.{Reason}
 
 -- a chain of tests: the first that fails decides, and where one is passed the rest does
@@ -57,12 +59,25 @@ unchanged c new old e h = rw (sym e ∙ h)
 pub changed : {x : Checked} {y : List ℕ} (c : Checked) (new old : List ℕ) → x ≡ c → x ≡ Ok tt → y ≡ new → y ≡ on_fine c new old
 changed c new old e h told = rw (sym e ∙ h) told
 
+abbrev is_done : Verdict → Bool
+is_done Done = true
+is_done Member = false
+is_done NotMember = false
+is_done (Refused f) = false
+
+pub verdict_done : (c : Checked) → ((answer_of c).verdict ≡ Done) ↔ (c ≡ Ok tt)
+verdict_done (Ok _) = (λ e. refl, λ e. refl)
+verdict_done (Err f) = (λ e. absurd (true≢false (sym (ap is_done e))), λ e. ap (λ (d : Checked). (answer_of d).verdict) e)
+
 pub never : {P : Type 0} → false ≡ true → P
 never e = absurd (true≢false (sym e))
 
 -- where the first tests are known to be passed
 pub passed_changed : {y : List ℕ} (c : Checked) (new old : List ℕ) → c ≡ Ok tt → y ≡ new → y ≡ on_fine c new old
 passed_changed c new old e told = rw e told
+
+pub passed_buffer : (c : Checked) (new old : List ℕ) → c ≡ Ok tt → on_fine c new old ≡ new
+passed_buffer c new old e = rw e
 
 -- a walk over numbered tests: the first that fails decides
 module _ (check : ℕ → Checked) where

@@ -1,7 +1,7 @@
 -- The numbers of the refusals, as docs/REQUIREMENTS.md gives them.
 use Rattle.std.specs.Prelude.{ℕ}
 use Rattle.records.specs.declared.refusals.Reason.{Reason}
-use Rattle.records.specs.declared.refusals.Reason.TheVariants.{SystemUneven, SystemTooLong, NoLineFeed, NeitherLetterNorStop, LetterAfterStop, TargetOrProductMalformed, LogUneven, LogRecordMalformed, SlotMissing, WordsBufferShort, ProductBufferShort, WordTooLong, LogBufferShort, SystemNotReduced, TextMalformed, NestingTooDeep, ExponentOutOfRange}
+use Rattle.records.specs.declared.refusals.Reason.TheVariants.{SystemUneven, SystemTooLong, NoLineFeed, NeitherLetterNorStop, LetterAfterStop, TargetOrProductMalformed, LogUneven, LogRecordMalformed, SlotMissing, WordsBufferShort, ProductBufferShort, WordTooLong, LogBufferShort, SystemNotReduced, TextMalformed, NestingTooDeep, ExponentOutOfRange, NumbersMalformed, NumberWithoutLetter}
 
 abbrev pub number_of : Reason → ℕ
 number_of SystemUneven = 1
@@ -21,3 +21,5 @@ number_of SystemNotReduced = 15
 number_of TextMalformed = 16
 number_of NestingTooDeep = 17
 number_of ExponentOutOfRange = 18
+number_of NumbersMalformed = 19
+number_of NumberWithoutLetter = 20

@@ -22,6 +22,8 @@ pub enum Reason {
     TextMalformed = 16,
     NestingTooDeep = 17,
     ExponentOutOfRange = 18,
+    NumbersMalformed = 19,
+    NumberWithoutLetter = 20,
 }
 
 // The number of a refusal.

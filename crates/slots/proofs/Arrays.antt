@@ -1,25 +1,25 @@
 -- The words of a system in an array that begins with them: a word put in the place of another, the inverse of another system's word put there,
 -- a word more from a record, and a word more written to its slot.
-use Rattle.std.proofs.Common.{ℕ, ◌*◌, ◌+◌, ◌-◌, ◌<◌, ◌≤◌, ◌≡◌, List, [], ◌++◌, ◌∷◌, length, map, drop, get_or, set, take, add-one, append_assoc, arith, ap, ap₂, ◌∙◌, sym, length-take-le, drop_at, drop-drop, get_or-set_other, get_or-set_same, take-suc, take_at}
+use Rattle.std.proofs.Common.{ℕ, ◌*◌, ◌+◌, ◌-◌, ◌<◌, ◌≤◌, ◌≡◌, List, [], ◌++◌, ◌∷◌, length, map, drop, get_or, set, take, add-one, arith, ap, ap₂, ◌∙◌, sym, get_or-set_other, get_or-set_same, take-suc}
 use Rattle.std.proofs.lemmas.Grind.{common_steps}
 use native.Mathlib.Decide.{ℕ_discrete}
-use borrow.Rule.Slice.PartMut.{put_mid, same_len_mid}
+use borrow.Rule.Slice.PartMut.{put_mid}
 use Rattle.words.specs.Alphabet.{bytes}
 use Rattle.words.specs.Below.{below}
 use Rattle.std.proofs.Math.Seq.{get_or-take, take-set-lt, take-suc-set}
-use Rattle.std.proofs.lemmas.List.{get_or_default}
+use Rattle.std.proofs.lemmas.List.{get_or_default, map_push, length-map}
 use Rattle.words.specs.Words.{Irreducible, freely_reduce, inverse}
 use Rattle.words.proofs.Inverse.{inverse-length, inverse_irreducible}
 use Rattle.words.proofs.Alphabet.{byte_laws}
 use Rattle.words.proofs.Below.{below_length}
-use Rattle.std.proofs.lemmas.List.{map_push}
-use Rattle.std.proofs.lemmas.List.{length-map}
 use Rattle.words.proofs.FreeReduction.{freely_reduce-same, irreducible_of_same}
 use Rattle.systems.specs.Products.{FreelyReduced}
 use Rattle.records.specs.Records.{record_of, word_of}
 use Rattle.slots.specs.Systems.{AllShort, bytes_of, freely_reduced_words, record_at, slots, word_at}
-use Rattle.slots.proofs.RoundTrip.{bytes_of-length}
-use Rattle.slots.proofs.Systems.{bytes_last}
+use Rattle.slots.proofs.Systems.{bytes_of-parts, records_sized}
+use Rattle.words.proofs.Parts.{parts_all, part_more}
+use Rattle.words.specs.Buffers.{written}
+use Rattle.std.specs.List.{flat_map}
 
 -- a word in the place of another
 module _ (S : List (List ℕ)) (k : ℕ) (w : List ℕ) where
@@ -71,30 +71,14 @@ module _ (s : List ℕ) (S : List (List ℕ)) (k : ℕ) (here : S ≡ map (freel
   unfolding freely_reduced_words
   load_all all = here ∙ ap (λ (m : ℕ). map (freely_reduce bytes) (below (word_at s) m)) all
 
--- the buffer has its length still where a part of it was lent and came back
-pub mid_length : (a k n : ℕ) (s y : List ℕ) → length y ≡ length (take k (drop a s)) → length s ≡ n → length (put_mid a k s y) ≡ n
-mid_length a k n s y kept e = same_len_mid a k s y kept ∙ e
-
--- the words that a list begins with are short where all are
-pub short_take : (n : ℕ) (S : List (List ℕ)) → AllShort S → AllShort (take n S)
-short_take n S short j = grind (arith, common_steps, short j)
-
--- one more word is written into its slot
+-- one word more is written into its slot
 module _ (S : List (List ℕ)) (k : ℕ) (buffer out w y d : List ℕ) (short : AllShort S) (inside : k < length S)
-    (here : out ≡ bytes_of (take k S) ++ drop (k * 64) buffer) (mine : w ≡ get_or S k d) (told : y ≡ record_of w) where
-  pub store_more : take (k * 64) out ++ (y ++ drop (k * 64 + 64 - k * 64) (drop (k * 64) out))
-      ≡ bytes_of (take (k + 1) S) ++ drop ((k + 1) * 64) buffer
-  store_more =
-      let done : List ℕ = bytes_of (take k S) in
-      let count : length (take k S) ≡ k = length-take-le k S (omega arith) in
-      let long : length done ≡ k * 64 = bytes_of-length (take k S) (short_take k S short) ∙ ap (λ (m : ℕ). m * 64) count in
-      let step : k * 64 + (k * 64 + 64 - k * 64) ≡ (k + 1) * 64 = omega arith in
-      let front : take (k * 64) out ≡ done = ap (take (k * 64)) here ∙ take_at done _ (k * 64) long in
-      let back : drop (k * 64 + 64 - k * 64) (drop (k * 64) out) ≡ drop ((k + 1) * 64) buffer =
-      ap (λ (l : List ℕ). drop (k * 64 + 64 - k * 64) l) (ap (drop (k * 64)) here ∙ drop_at done _ (k * 64) long)
-      ∙ drop-drop (k * 64 + 64 - k * 64) (k * 64) buffer ∙ ap (λ (m : ℕ). drop m buffer) step in
-      let more : done ++ record_of w ≡ bytes_of (take (k + 1) S) =
-      ap (λ (v : List ℕ). done ++ record_of v) mine ∙ sym (bytes_last (take k S) (get_or S k d))
-      ∙ ap bytes_of (sym (ap (λ (m : ℕ). take m S) (add-one k) ∙ take-suc S k d inside)) in
-      ap₂ (λ (f g : List ℕ). f ++ (y ++ g)) front back ∙ ap (λ (v : List ℕ). done ++ (v ++ drop ((k + 1) * 64) buffer)) told
-      ∙ sym (append_assoc done _ _) ∙ ap (λ (f : List ℕ). f ++ drop ((k + 1) * 64) buffer) more
+    (here : out ≡ flat_map record_of (take k S) ++ drop (k * 64) buffer) (mine : w ≡ get_or S k d) (told : y ≡ record_of w) where
+  pub store_more : put_mid (k * 64) (k * 64 + 64 - k * 64) out y ≡ flat_map record_of (take (k + 1) S) ++ drop ((k + 1) * 64) buffer
+  store_more = part_more record_of 64 [] S (records_sized S short) k inside buffer y out here (told ∙ ap record_of (mine ∙ get_or_default S k d [] inside))
+
+-- the words of all slots
+pub stored_all : (S : List (List ℕ)) (k : ℕ) (buffer out : List ℕ) → AllShort S → k ≡ length S → out ≡ flat_map record_of (take k S) ++ drop (k * 64) buffer
+    → out ≡ written (bytes_of S) buffer
+stored_all S k buffer out short all here =
+    parts_all record_of 64 [] S (records_sized S short) k buffer out all here ∙ ap (λ (l : List ℕ). written l buffer) (bytes_of-parts S)

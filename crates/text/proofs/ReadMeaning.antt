@@ -1,8 +1,8 @@
 -- What the answer of read means, from its exact clauses.
 use Prim.Native.Nat.{◌≤◌, ℕ}
-use mathlib.Core.Path.{◌∙◌, ◌≡◌, ap, refl, sym}
+use mathlib.Core.Path.{◌∙◌, ◌≡◌, ap, refl}
 use mathlib.Core.Logic.{◌↔◌, inl, inr}
-use mathlib.Core.Bool.{Bool, false, true}
+use mathlib.Core.Bool.{false, true}
 use mathlib.Core.List.{List, [], ◌∷◌}
 use native.Mathlib.Omega.{arith}
 use lib.Dec.{leb}
@@ -13,13 +13,12 @@ use Rattle.words.specs.Words.{freely_reduce}
 use Rattle.words.specs.Buffers.{written}
 use Rattle.records.specs.Answers.{answer_of, refused_with}
 use Rattle.records.specs.Records.{record_of}
-use Rattle.records.specs.Refusals.{◌and_then◌, must, refusal}
+use Rattle.records.specs.Refusals.{◌and_then◌, must, refusal, Checked}
 use Rattle.records.specs.declared.answers.Answer.{Answer}
-use Rattle.records.specs.declared.answers.Refusal.{Refusal}
 use Rattle.records.specs.declared.answers.Verdict.{Verdict}
 use Rattle.records.specs.declared.answers.Verdict.TheVariants.{Done, Member, NotMember, Refused}
 use Rattle.records.proofs.ByNumber.{Never, must-given, must_never, never_then, then_first, then_next}
-use Rattle.records.proofs.Chains.{fine_first, fine_next, must_fine, must_pass}
+use Rattle.records.proofs.Chains.{verdict_done, fine_first, fine_next, must_fine, must_pass}
 use Rattle.slots.specs.Refusals.{word_room}
 use Rattle.slots.proofs.Systems.{room_enough, room_fits}
 use Rattle.syntax.specs.Trees.{Product, Spells}
@@ -35,31 +34,17 @@ use Rattle.records.specs.declared.refusals.Reason.TheVariants.{ExponentOutOfRang
 use Rattle.records.specs.declared.refusals.Reason.{Reason}
 use Rattle.records.specs.Reasons.{number_of}
 use Rattle.std.specs.Prelude.{Err, Ok}
-use Rattle.records.specs.Refusals.{Checked}
 use Rattle.std.proofs.lemmas.Bool.{and_parts, both_ways, cases_Bool, false_from_ne_true}
 
 pub through : {A B C : Type 0} → A ↔ B → B ↔ C → A ↔ C
 through (a, b) (c, d) = (λ z. c (a z), λ z. b (d z))
 
 -- a verdict, and what the tests found
-abbrev is_done : Verdict → Bool
-is_done Done = true
-is_done Member = false
-is_done NotMember = false
-is_done (Refused f) = false
-
 abbrev tests_of : Verdict → Checked
 tests_of Done = Ok tt
 tests_of Member = Ok tt
 tests_of NotMember = Ok tt
 tests_of (Refused f) = Err f
-
-pub refused-done : (f : Refusal) → Refused f ≡ Done → ⊥
-refused-done f e = both_ways true (sym (ap is_done e)) refl
-
-pub verdict_done : (c : Checked) → ((answer_of c).verdict ≡ Done) ↔ (c ≡ Ok tt)
-verdict_done (Ok _) = (λ e. refl, λ e. refl)
-verdict_done (Err f) = (λ e. absurd (refused-done f e), λ e. ap (λ (d : Checked). (answer_of d).verdict) e)
 
 pub verdict_refused : (c : Checked) (n : Reason) (k : ℕ) → ((answer_of c).verdict ≡ refused_with n k) ↔ (c ≡ refusal n k)
 verdict_refused (Ok _) n k = (λ e. ap tests_of e, λ e. ap (λ (d : Checked). (answer_of d).verdict) e)

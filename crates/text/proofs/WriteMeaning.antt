@@ -15,10 +15,10 @@ use Rattle.words.proofs.Buffers.{written-take}
 use Rattle.words.proofs.FreeReduction.{freely_reduce-same}
 use Rattle.records.specs.Answers.{answer_of}
 use Rattle.records.specs.Records.{record_of, word_of}
-use Rattle.records.specs.Refusals.{as_six, must, record_rules, refusal, target_rules}
+use Rattle.records.specs.Refusals.{as_six, must, record_rules, refusal, target_rules, Checked}
 use Rattle.records.specs.declared.answers.Verdict.TheVariants.{Done}
 use Rattle.records.proofs.ByNumber.{Never, fine_never, must-given, must_never, never_then, other_never, then_first, then_next}
-use Rattle.records.proofs.Chains.{fine_first, fine_next}
+use Rattle.records.proofs.Chains.{fine_first, fine_next, verdict_done}
 use Rattle.records.proofs.RoundTrip.{AllLetters, record_letters, word-short}
 use Rattle.slots.specs.Refusals.{word_room}
 use Rattle.slots.proofs.Systems.{room_enough, room_fits}
@@ -31,10 +31,9 @@ use Rattle.text.specs.Write.{write_answer, write_buffer, write_rules, writing_of
 use Rattle.text.specs.declared.Writing.{Writing}
 use Rattle.text.specs.Read.{read_answer, read_buffer, read_rules}
 use Rattle.text.specs.ReadBack.{ReadBack}
-use Rattle.text.proofs.ReadMeaning.{buffer_done, fits_all, rules_done, through, verdict_done, verdict_refused}
+use Rattle.text.proofs.ReadMeaning.{buffer_done, fits_all, rules_done, through, verdict_refused}
 use Rattle.records.specs.declared.refusals.Reason.TheVariants.{TargetOrProductMalformed, WordsBufferShort}
 use Rattle.std.specs.Prelude.{Err, Ok}
-use Rattle.records.specs.Refusals.{Checked}
 use Rattle.records.specs.declared.refusals.Reason.{Reason}
 use Rattle.records.specs.Reasons.{number_of}
 

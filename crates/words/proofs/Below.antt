@@ -5,7 +5,7 @@ use mathlib.Core.List.{[], ◌∷◌}
 use native.Mathlib.Omega.{arith}
 use native.Mathlib.Numerals.{add-one}
 use native.Mathlib.Decide.{dec_lt}
-use lib.ListN.{length, drop, get_or, length-append, get_or-append}
+use lib.ListN.{get_or-eq_default, length, drop, get_or, length-append, get_or-append}
 use lib.Seq.{drop-cons, get_or_at}
 use Rattle.words.specs.Below.{below}
 
@@ -21,6 +21,13 @@ module _ {B : Type 0} (f : ℕ → B) where
     | no m ↦
         let last : n ≡ k = omega arith in
         get_or_at (below f n) _ [] d k (below_length n ∙ last) ∙ ap f last
+  ]
+
+  -- what holds of each part, and of the default, holds at every place
+  pub below_each : (P : B → Type 0) (n : ℕ) (d : B) → P d → ((k : ℕ) → k < n → P (f k)) → (k : ℕ) → P (get_or (below f n) k d)
+  below_each P n d blank each k = elim (dec_lt k n) [
+    | yes h ↦ rw (below_at n k d h) (each k h)
+    | no m ↦ rw (get_or-eq_default (below f n) d {n = k} (rw (below_length n) (omega arith))) blank
   ]
 
   pub below-drop : (n k : ℕ) → k < n → drop k (below f n) ≡ f k ∷ drop (k + 1) (below f n)

@@ -6,7 +6,7 @@ use mathlib.Core.List.{List, [], ◌∷◌, ◌++◌, append_assoc, append-nil}
 use native.Mathlib.Omega.{arith}
 use lib.ListN.{length}
 use Rattle.words.specs.Alphabet.{Alphabet}
-use Rattle.words.specs.Words.{push, freely_reduce, Irreducible, Removed, removed, Removals, none, more}
+use Rattle.words.specs.Words.{FreelyReducesTo, push, freely_reduce, Irreducible, Removed, removed, Removals, none, more}
 use Rattle.words.proofs.Alphabet.{AlphabetLaws, same_yes, same_no, differ, same?, flip_turn}
 
 module _ {A : Type 0} (G : Alphabet A) (L : AlphabetLaws G) where
@@ -170,6 +170,9 @@ module _ {A : Type 0} (G : Alphabet A) (L : AlphabetLaws G) where
   pub removals_exist : (w : List A) → Removals G w (freely_reduce G w)
   removals_exist [] = none refl
   removals_exist (x ∷ w) = removals_then (removals_cons x (removals_exist w)) (removals_push x (freely_reduce G w))
+
+  pub freely_reduces : (w : List A) → FreelyReducesTo G w (freely_reduce G w)
+  freely_reduces w = record { removed = removals_exist w; none_left = freely_reduce_irreducible w }
 
   pub freely_reduce-snoc_cancel : (w u : List A) (x y : A) → freely_reduce G w ≡ u ++ (y ∷ []) → y ≡ flip x → freely_reduce G (w ++ (x ∷ [])) ≡ u
   freely_reduce-snoc_cancel w u x y e f = rw (freely_reduce_left w (x ∷ []), e, append_assoc, f, freely_reduce_pair_flip u x [], append-nil)

@@ -8,3 +8,5 @@ pub mod Writers
 pub mod Below
 pub mod Counting
 pub mod Joining
+pub mod Parts
+pub mod Mapping

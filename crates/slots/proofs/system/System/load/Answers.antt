@@ -2,7 +2,7 @@
 use Rattle.slots.proofs.Arrays.{load_all, load_count, load_more}
 use Rattle.std.proofs.Common.{arith, ap, ◌∙◌, ◌<◌, ◌≡◌, ℕ, List, [], get_or}
 use Rattle.slots.specs.Systems.{slots}
-use Rattle.slots.proofs.Systems.{chunk_at}
+use Rattle.words.proofs.Parts.{chunk_at}
 use Rattle.slots.proofs.system.System.load.Goals as goal
 
 pub add-requires : goal.add-requires
@@ -15,7 +15,7 @@ loop-record-preserved c =
     let s = c.args.records.now in
     let k = c.loop-record.record-index in
     let inside : k < slots s = omega (arith, c.loop-record-test.true, c.as_chunks.ensures.front_len) in
-    let part = ap (λ (l : List (List ℕ)). get_or l k []) c.as_chunks.ensures.front ∙ chunk_at (slots s) k s [] inside in
+    let part = ap (λ (l : List (List ℕ)). get_or l k []) c.as_chunks.ensures.front ∙ chunk_at 64 (slots s) k s [] inside in
     load_more s c.loop-record.self k c.loop-record.invariant part c.add.ensures
 
 pub returns : goal.returns
