@@ -1,7 +1,10 @@
 // Tidy: freely reduce every record of a system.
 #![tactic(auto)]
 
-ghost use Rattle.std.specs.Prelude.{◌≡◌};
+ghost use Rattle.std.specs.Prelude.{◌*◌, ◌≡◌, take};
+ghost use Rattle.records.specs.declared.answers.Verdict.TheVariants.{Done};
+ghost use Rattle.slots.specs.Systems.{slots};
+ghost use Rattle.tidy.specs.Meaning.{Tidied};
 ghost use Rattle.tidy.specs.Tidy.{tidy_answer, tidy_buffer};
 
 use records::answers::Answer;
@@ -12,6 +15,7 @@ use slots::system::System;
 pub fn tidy(system: &[u8], words: &mut [u8]) -> Answer
     ensures answer { result ≡ tidy_answer system.now words.old }
     ensures words { words.new ≡ tidy_buffer system.now words.old }
+    ensures means { result.verdict ≡ Done → Tidied system.now (take (slots system.now * 64) words.new) }
 {
     let checked = check_system_room(system, words.len());
     let Ok(()) = checked else {
