@@ -2,9 +2,9 @@
  *
  * A few words generate a subgroup of a free group. The calls below reduce such a system of words in Nielsen's sense, decide
  * whether a word lies in the subgroup and give the product that it is, follow a log of moves forward and backward, and
- * multiply a product out; two more read and write words as people write them, with powers and commutators. Every call takes
- * byte buffers of any length and content, and either does its work or refuses; its answer and each byte that it leaves are
- * proved for all of them. docs/REQUIREMENTS.md says in full what is promised.
+ * multiply a product out; two more read and write words as people write them, with powers and commutators, and three keep
+ * words as signed numbers. Every call takes byte buffers of any length and content, and either does its work or refuses; its
+ * answer and each byte that it leaves are proved for all of them. docs/REQUIREMENTS.md says in full what is promised.
  *
  *                (cd crates/subgroups_c && rt lib)
  *                gcc -Iinclude program.c crates/subgroups_c/out/libsubgroups_c.a
@@ -33,15 +33,16 @@
  *            With w the word of the slot changed and v that of the other slot, form 1 makes it v w, form 2 the inverse of v,
  *            then w, form 3 w v, and form 4 w, then the inverse of v; the result is freely reduced.
  *
- * Buffers    words needs 64 bytes for each record of the system, product and word 64, log 4 for each move, and the text of
- *            write_text 256. A longer buffer does no harm: bytes after the last one written stay as they were. A refusal
- *            changes nothing but the answer, and the length that write_text gives, except that under
- *            SUBGROUPS_LOG_BUFFER_SHORT the log holds, as whole log records, the first moves that fit.
+ * Buffers    words needs 64 bytes for each record of the system, product and word 64, log 4 for each move, the text of
+ *            write_text 256, and the numbers of to_numbers, and tidied, 128 for each record. A longer buffer does no harm:
+ *            bytes after the last one written stay as they were. A refusal changes nothing but the answer, and the length
+ *            that write_text gives, except that under SUBGROUPS_LOG_BUFFER_SHORT the log holds, as whole log records, the
+ *            first moves that fit.
  *            How many moves a system takes is not known beforehand: 16 random words take some dozens, more than 1,000 have been
  *            seen, and no bound is promised. A caller that gets SUBGROUPS_LOG_BUFFER_SHORT lends a longer log and calls again.
- *            What is written (words, log, product, word, text, length, answer) must not overlap any other buffer; buffers
- *            that are only read may. Where a buffer's length is 0 its pointer may be anything, NULL too; answer and length
- *            must not be NULL.
+ *            What is written (words, log, product, word, text, length, answer, the numbers of to_numbers, tidied) must not
+ *            overlap any other buffer; buffers that are only read may. Where a buffer's length is 0 its pointer may be
+ *            anything, NULL too; answer and length must not be NULL.
  *
  * Targets    A service with many targets for one system calls reduce once, keeps the reduced words (64 bytes for each record of
  *            the system), and calls ask with those bytes for each target. Member does both for one target, and gives what the
@@ -60,6 +61,16 @@
  *
  *            read_text turns a text into a record, write_text a record into a text, in which a run of equal letters is a
  *            power: aaBBB is a^2b^-3.
+ *
+ * Numbers    A record of numbers keeps a word as 64 signed 16-bit numbers, low byte first, in 128 bytes: up to 63 numbers from
+ *            1 to 1,000, or from -1 to -1,000 for inverses, then zeros, the last always zero. a is 1, A is -1, z is 26.
+ *
+ *                byte   0    1    2    3    4    5    6    ..   127
+ *                aBc    1    0    254  255  3    0    0    ..   0
+ *
+ *            A system of numbers is 0 to 16 such records. to_numbers writes a system as a system of numbers, and from_numbers
+ *            writes it back, where every number is from -26 to 26; there and back, and back and there, give the same bytes.
+ *            tidy_numbers removes neighbours x and -x until none are left.
  *
  * Threads    The library keeps nothing between calls and allocates nothing. Calls may run side by side in any number of
  *            threads, as long as no call writes a buffer that another one uses.
@@ -94,11 +105,13 @@ extern "C" {
 #endif
 
 enum {
-    SUBGROUPS_RECORD = 64,  /* the bytes of a record */
-    SUBGROUPS_LETTERS = 63, /* the most letters of a word */
-    SUBGROUPS_SLOTS = 16,   /* the most records of a system */
-    SUBGROUPS_MOVE = 4,     /* the bytes of a log record, which is one move */
-    SUBGROUPS_TEXT = 256    /* the most bytes of a text to read, and the room that write_text asks for */
+    SUBGROUPS_RECORD = 64,          /* the bytes of a record */
+    SUBGROUPS_LETTERS = 63,         /* the most letters of a word */
+    SUBGROUPS_SLOTS = 16,           /* the most records of a system */
+    SUBGROUPS_MOVE = 4,             /* the bytes of a log record, which is one move */
+    SUBGROUPS_TEXT = 256,           /* the most bytes of a text to read, and the room that write_text asks for */
+    SUBGROUPS_NUMBERS_RECORD = 128, /* the bytes of a record of numbers */
+    SUBGROUPS_LARGEST_NUMBER = 1000 /* the largest number of a generator */
 };
 
 /* What a call says: answer.verdict. */
@@ -110,11 +123,13 @@ enum subgroups_verdict {
 };
 
 /* Why a call refuses: answer.number. Each call tests the refusals that stand at it below, in the order in which they stand
- * there, 3 to 5 record by record, and gives the first. answer.place is 0 where nothing else is said here; a place that is a
- * byte counts from 0 at the beginning of its buffer. 14 belongs to a call that has no entry for C. */
+ * there, 3 to 5 record by record, and so 19 with 20, and gives the first. answer.place is 0 where nothing else is said here; a
+ * place that is a byte counts from 0 at the beginning of its buffer. 14 belongs to a call that has no entry for C. */
 enum subgroups_refusal {
-    SUBGROUPS_SYSTEM_UNEVEN = 1,               /* the system's length is not a multiple of 64 */
-    SUBGROUPS_SYSTEM_TOO_LONG = 2,             /* the system has more than 1,024 bytes, those of 16 records; tested before 1 */
+    SUBGROUPS_SYSTEM_UNEVEN = 1,               /* the system's length is not a multiple of 64, or, for a system of
+                                                  numbers, of 128 */
+    SUBGROUPS_SYSTEM_TOO_LONG = 2,             /* the system has more than 1,024 bytes, or, for a system of numbers, 2,048,
+                                                  those of 16 records; tested before 1 */
     SUBGROUPS_NO_LINE_FEED = 3,                /* byte 63 of a record is not a line feed; place: that byte in the system */
     SUBGROUPS_NEITHER_LETTER_NOR_STOP = 4,     /* a byte before it is neither letter nor full stop; place: the first such
                                                   byte in the system */
@@ -127,8 +142,8 @@ enum subgroups_refusal {
                                                   such in the log */
     SUBGROUPS_SLOT_MISSING = 9,                /* the product names a slot that the system does not have; place: the first
                                                   such letter in the product */
-    SUBGROUPS_WORDS_BUFFER_SHORT = 10,         /* words, or word, has no room for the output, or the text
-                                                  buffer of write_text has less than 256 bytes */
+    SUBGROUPS_WORDS_BUFFER_SHORT = 10,         /* words, word, numbers or tidied has no room for the output, or the
+                                                  text buffer of write_text has less than 256 bytes */
     SUBGROUPS_PRODUCT_BUFFER_SHORT = 11,       /* the product buffer is shorter than 64 bytes */
     SUBGROUPS_WORD_TOO_LONG = 12,              /* a move of replay, or multiply, comes to more than 63 letters; place: in
                                                   replay the move's number in the log, counted from 1. In
@@ -141,7 +156,12 @@ enum subgroups_refusal {
                                                   which no well-formed text can go on, or the text's length where it only ends
                                                   too early; 0 where it is too long */
     SUBGROUPS_NESTING_TOO_DEEP = 17,           /* the text nests more than 8 deep; place: the first sign ( or [ that does */
-    SUBGROUPS_EXPONENT_OUT_OF_RANGE = 18       /* an exponent is not from -63 to 63; place: the first such caret */
+    SUBGROUPS_EXPONENT_OUT_OF_RANGE = 18,      /* an exponent is not from -63 to 63; place: the first such caret */
+    SUBGROUPS_NUMBERS_MALFORMED = 19,          /* a number of a record is not from -1,000 to 1,000, or it is not zero and stands
+                                                  after a zero or is the last of its record; place: the first such
+                                                  number's first byte */
+    SUBGROUPS_NUMBER_WITHOUT_LETTER = 20       /* from_numbers: a number is above 26 or below -26; place: the first such
+                                                  number's first byte */
 };
 
 /* The answer of a call. number and place are those of a refusal; what a call does not give is 0, and under a refusal all that
@@ -196,6 +216,20 @@ void subgroups_read_text(const uint8_t *text, size_t text_len, uint8_t *word, si
  * Refusals 6 and 10. */
 void subgroups_write_text(const uint8_t *word, size_t word_len, uint8_t *text, size_t text_len, uint64_t *length,
                           subgroups_answer *answer);
+
+/* Writes each word of a system, not freely reduced first, as a record of numbers into the same slot. Refusals 2, 1, 3 to 5 and
+ * 10. */
+void subgroups_to_numbers(const uint8_t *system, size_t system_len, uint8_t *numbers, size_t numbers_len,
+                          subgroups_answer *answer);
+
+/* Writes each record of numbers as a record of letters into the same slot. Refusals 2, 1, 19 and 20, record by record and in
+ * each 19 first, and 10. */
+void subgroups_from_numbers(const uint8_t *numbers, size_t numbers_len, uint8_t *words, size_t words_len,
+                            subgroups_answer *answer);
+
+/* Writes each record of a system of numbers, freely reduced, into the same slot of tidied. Refusals 2, 1, 19 and 10. */
+void subgroups_tidy_numbers(const uint8_t *numbers, size_t numbers_len, uint8_t *tidied, size_t tidied_len,
+                            subgroups_answer *answer);
 
 #ifdef __cplusplus
 }

@@ -1,6 +1,6 @@
 -- The worked sheets of docs/REQUIREMENTS.md that have a label, what the program prints for three of them, for no input and for a byte that
 -- is neither letter nor full stop, as one list, and what each says over the definitions.
-use Rattle.std.specs.Prelude.{ℕ, ◌*◌, ◌≡◌, Bool, true, false, List, [], ◌∷◌, ◌++◌, length, replicate}
+use Rattle.std.specs.Prelude.{ℕ, ◌*◌, ◌-◌, ◌≡◌, Bool, true, false, List, [], ◌∷◌, ◌++◌, length, replicate}
 use Prim.Native.String.{String}
 use Rattle.records.specs.Records.{record_of}
 use Rattle.words.specs.Buffers.{written}
@@ -14,10 +14,12 @@ use Rattle.asking.specs.Asking.{ask_answer, ask_product}
 use Rattle.membership.specs.Membership.{member_answer, member_log, member_product, member_words}
 use Rattle.text.specs.Read.{read_answer, read_buffer}
 use Rattle.text.specs.Write.{write_answer, write_buffer}
+use Rattle.numbers.specs.Calls.{from_numbers_answer, from_numbers_buffer, tidy_numbers_answer, tidy_numbers_buffer, to_numbers_answer, to_numbers_buffer}
+use Rattle.numbers.specs.Records.{numbers_bytes_of, numbers_record}
 use Rattle.output.specs.Output.{program_output}
 use Rattle.lines.specs.Text.{bytes_in}
 use Rattle.records.specs.declared.refusals.Reason.{Reason}
-use Rattle.records.specs.declared.refusals.Reason.TheVariants.{ExponentOutOfRange, NestingTooDeep, ProductBufferShort, SystemNotReduced, SystemTooLong, SystemUneven, TextMalformed, WordTooLong, WordsBufferShort}
+use Rattle.records.specs.declared.refusals.Reason.TheVariants.{ExponentOutOfRange, NestingTooDeep, NumberWithoutLetter, NumbersMalformed, ProductBufferShort, SystemNotReduced, SystemTooLong, SystemUneven, TextMalformed, WordTooLong, WordsBufferShort}
 
 -- the record of a word that is given as text, and the system of several
 abbrev pub record_in : String → List ℕ
@@ -31,6 +33,10 @@ system_in (w ∷ rest) = record_in w ++ system_in rest
 abbrev pub lines_in : List String → List ℕ
 lines_in [] = []
 lines_in (l ∷ rest) = bytes_in l ++ (10 ∷ lines_in rest)
+
+-- the number -x, as a record of numbers holds it
+abbrev pub minus : ℕ → ℕ
+minus x = 65536 - x
 
 -- a lent buffer of question marks
 abbrev pub lent : ℕ → List ℕ
@@ -64,6 +70,16 @@ pub data Sheet : Type 0 where
   refuses_text : String → ℕ → Verdict → Sheet
   -- a word, and its text
   writes : String → String → String → Sheet
+  -- words, and their numbers: what to_numbers gives for the one and from_numbers for the other
+  numbered : String → List String → List (List ℕ) → Sheet
+  -- words, the length of the numbers buffer, and the refusal that to_numbers gives
+  not_numbered : String → List String → ℕ → Verdict → Sheet
+  -- numbers, the length of the words buffer, and the refusal that from_numbers gives
+  not_returned : String → List (List ℕ) → ℕ → Verdict → Sheet
+  -- numbers, the length of the buffer, the verdict of tidy_numbers, and the buffer afterwards
+  tidies_numbers : String → List (List ℕ) → ℕ → Verdict → List ℕ → Sheet
+  -- a length of numbers, and the reason of the refusal that tidy_numbers gives to all numbers of that length
+  refuses_numbers : String → ℕ → Reason → Sheet
   -- words on the program's standard input, the last one the target, and the lines that it prints
   prints : String → List String → List String → Sheet
   -- a length of the program's input, and the line that it prints for every input of that length
@@ -115,6 +131,23 @@ Says (refuses_text label n verdict) =
 Says (writes label word text) =
     (write_answer (record_in word) (lent 256) ≡ record { verdict = Done; length = length (bytes_in text) })
     × (write_buffer (record_in word) (lent 256) ≡ written (bytes_in text) (lent 256))
+Says (numbered label words numbers) =
+    (to_numbers_answer (system_in words) (lent 256) ≡ record { verdict = Done })
+    × (to_numbers_buffer (system_in words) (lent 256) ≡ written (numbers_bytes_of numbers) (lent 256))
+    × (from_numbers_answer (numbers_bytes_of numbers) (lent 128) ≡ record { verdict = Done })
+    × (from_numbers_buffer (numbers_bytes_of numbers) (lent 128) ≡ written (system_in words) (lent 128))
+Says (not_numbered label words room verdict) =
+    (to_numbers_answer (system_in words) (lent room) ≡ record { verdict = verdict })
+    × (to_numbers_buffer (system_in words) (lent room) ≡ lent room)
+Says (not_returned label numbers room verdict) =
+    (from_numbers_answer (numbers_bytes_of numbers) (lent room) ≡ record { verdict = verdict })
+    × (from_numbers_buffer (numbers_bytes_of numbers) (lent room) ≡ lent room)
+Says (tidies_numbers label numbers room verdict buffer) =
+    (tidy_numbers_answer (numbers_bytes_of numbers) (lent room) ≡ record { verdict = verdict })
+    × (tidy_numbers_buffer (numbers_bytes_of numbers) (lent room) ≡ buffer)
+Says (refuses_numbers label n why) =
+    (numbers buffer : List ℕ) → length numbers ≡ n
+    → (tidy_numbers_answer numbers buffer ≡ record { verdict = refused why }) × (tidy_numbers_buffer numbers buffer ≡ buffer)
 Says (prints label given lines) = program_output (system_in given) ≡ lines_in lines
 Says (prints_for label n line) = (input : List ℕ) → length input ≡ n → program_output input ≡ lines_in (line ∷ [])
 
@@ -187,6 +220,19 @@ sheets =
     ∷ writes "W2" "aAa" "aAa"
     ∷ writes "W3" "" ""
     ∷ writes "W4" "zzzzzzzzzzZ" "z^10Z"
+    ∷ numbered "N1" ("aAz" ∷ "Z" ∷ []) ((1 ∷ minus 1 ∷ 26 ∷ []) ∷ (minus 26 ∷ []) ∷ [])
+    ∷ not_numbered "N2" ("a" ∷ []) 127 (refused WordsBufferShort)
+    ∷ not_returned "N3" ((26 ∷ []) ∷ (minus 26 ∷ minus 27 ∷ []) ∷ []) 128 (refused_with NumberWithoutLetter 130)
+    ∷ not_returned "N4" ((27 ∷ 0 ∷ 1 ∷ []) ∷ []) 64 (refused_with NumbersMalformed 4)
+    ∷ not_returned "N5" ((27 ∷ []) ∷ (1001 ∷ []) ∷ []) 128 (refused_with NumberWithoutLetter 0)
+    ∷ not_returned "N6" ((26 ∷ []) ∷ []) 63 (refused WordsBufferShort)
+    ∷ tidies_numbers "N7" ((1000 ∷ minus 27 ∷ 27 ∷ minus 1000 ∷ 300 ∷ []) ∷ []) 128 Done (numbers_record (300 ∷ []))
+    ∷ tidies_numbers "N8" (replicate 63 (minus 1000) ∷ []) 128 Done (numbers_record (replicate 63 (minus 1000)))
+    ∷ tidies_numbers "N9" (replicate 64 1 ∷ []) 128 (refused_with NumbersMalformed 126) (lent 128)
+    ∷ tidies_numbers "N10" ((1000 ∷ 1001 ∷ []) ∷ []) 128 (refused_with NumbersMalformed 2) (lent 128)
+    ∷ tidies_numbers "N11" ((1000 ∷ []) ∷ []) 127 (refused WordsBufferShort) (lent 127)
+    ∷ refuses_numbers "N12" 64 SystemUneven
+    ∷ refuses_numbers "N13" 2049 SystemTooLong
     ∷ prints "P3" ("ab" ∷ "b" ∷ "a" ∷ [])
     ("moves 1 rank 2 independent yes member yes"
     ∷ "a.............................................................."

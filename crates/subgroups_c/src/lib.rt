@@ -1,8 +1,9 @@
 // The entries for C. Each calls the proved function of its name and puts the answer's numbers into a fixed array, which C sees as a struct.
 #![tactic(auto)]
 
-ghost use Rattle.std.specs.Prelude.{◌≡◌, ℕ, List, [], ◌∷◌};
+ghost use Rattle.std.specs.Prelude.{◌*◌, ◌≡◌, ℕ, List, [], ◌∷◌, take};
 ghost use Rattle.records.specs.Answers.{refusal_number, refusal_place, verdict_number};
+ghost use Rattle.tidy.specs.Meaning.{Tidied};
 ghost use Rattle.tidy.specs.Tidy.{tidy_answer, tidy_buffer};
 ghost use Rattle.replay.specs.Replay.{replay_answer, replay_buffer};
 ghost use Rattle.multiply.specs.Multiply.{multiply_answer, multiply_buffer};
@@ -16,6 +17,11 @@ ghost use Rattle.text.specs.Meaning.{ReadMeans, WriteMeans};
 ghost use Rattle.text.specs.Read.{read_answer, read_buffer};
 ghost use Rattle.text.specs.ReadBack.{ReadBack};
 ghost use Rattle.text.specs.Write.{write_answer, write_buffer};
+ghost use Rattle.records.specs.declared.answers.Verdict.TheVariants.{Done};
+ghost use Rattle.slots.specs.Systems.{slots};
+ghost use Rattle.numbers.specs.Calls.{from_numbers_answer, from_numbers_buffer, tidy_numbers_answer, tidy_numbers_buffer, to_numbers_answer, to_numbers_buffer};
+ghost use Rattle.numbers.specs.Meaning.{CameBack, TidiedNumbers, WentThere};
+ghost use Rattle.numbers.specs.Records.{numbers_slots};
 ghost use Rattle.subgroups_c.specs.Numbers.{is_backward, plain_numbers, reduction_numbers, test_numbers, write_numbers};
 
 use records::answers::{Answer, Verdict};
@@ -84,6 +90,7 @@ fn verdict_numbers(verdict: Verdict) -> [u64; 3]
 pub extern "C" fn subgroups_tidy(system: &[u8], words: &mut [u8], numbers: &mut [u64; 7])
     ensures words { words.new ≡ tidy_buffer system.now words.old }
     ensures numbers { numbers.new ≡ plain_numbers (tidy_answer system.now words.old) }
+    ensures means { (tidy_answer system.now words.old).verdict ≡ Done → Tidied system.now (take (slots system.now * 64) words.new) }
 {
     let answer = tidy::tidy(system, words);
     *numbers = answer.numbers();
@@ -213,4 +220,37 @@ pub extern "C" fn subgroups_write_text(
     *length = answer.length as u64;
     let verdict = answer.verdict;
     *numbers = Answer { verdict }.numbers();
+}
+
+// To numbers: each record of a system as a record of signed numbers, in the same slot of the numbers buffer.
+#[unsafe(no_mangle)]
+pub extern "C" fn subgroups_to_numbers(system: &[u8], numbers: &mut [u8], answer: &mut [u64; 7])
+    ensures numbers { numbers.new ≡ to_numbers_buffer system.now numbers.old }
+    ensures answer { answer.new ≡ plain_numbers (to_numbers_answer system.now numbers.old) }
+    ensures means { (to_numbers_answer system.now numbers.old).verdict ≡ Done → WentThere system.now (take (slots system.now * 128) numbers.new) }
+{
+    let told = numbers::to_numbers(system, numbers);
+    *answer = told.numbers();
+}
+
+// From numbers: each record of signed numbers as a record of letters, in the same slot of the words buffer.
+#[unsafe(no_mangle)]
+pub extern "C" fn subgroups_from_numbers(numbers: &[u8], words: &mut [u8], answer: &mut [u64; 7])
+    ensures words { words.new ≡ from_numbers_buffer numbers.now words.old }
+    ensures answer { answer.new ≡ plain_numbers (from_numbers_answer numbers.now words.old) }
+    ensures means { (from_numbers_answer numbers.now words.old).verdict ≡ Done → CameBack numbers.now (take (numbers_slots numbers.now * 64) words.new) }
+{
+    let told = numbers::from_numbers(numbers, words);
+    *answer = told.numbers();
+}
+
+// Tidy numbers: each record of signed numbers, freely reduced, in the same slot of the tidied buffer.
+#[unsafe(no_mangle)]
+pub extern "C" fn subgroups_tidy_numbers(numbers: &[u8], tidied: &mut [u8], answer: &mut [u64; 7])
+    ensures tidied { tidied.new ≡ tidy_numbers_buffer numbers.now tidied.old }
+    ensures answer { answer.new ≡ plain_numbers (tidy_numbers_answer numbers.now tidied.old) }
+    ensures means { (tidy_numbers_answer numbers.now tidied.old).verdict ≡ Done → TidiedNumbers numbers.now (take (numbers_slots numbers.now * 128) tidied.new) }
+{
+    let told = numbers::tidy_numbers(numbers, tidied);
+    *answer = told.numbers();
 }

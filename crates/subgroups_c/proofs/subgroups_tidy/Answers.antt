@@ -3,5 +3,5 @@ use borrow.Author.Rules.{rules}
 use Rattle.subgroups_c.proofs.Numbers.{plain_of}
 use Rattle.subgroups_c.proofs.subgroups_tidy.Goals as goal
 
-pub returns : goal.returns
-returns c = search (plain_of, rules)
+pub returns-clause-numbers : goal.returns-clause-numbers
+returns-clause-numbers c = search (plain_of, rules)
