@@ -11,7 +11,7 @@ static void print_answer(const char *call, const subgroups_answer *a) {
 
 int main(void) {
     uint8_t record[SUBGROUPS_RECORD], blank[SUBGROUPS_RECORD], out[SUBGROUPS_RECORD], product[SUBGROUPS_RECORD];
-    uint8_t text[SUBGROUPS_TEXT];
+    uint8_t text[SUBGROUPS_TEXT], numbers[SUBGROUPS_NUMBERS_RECORD];
     uint64_t length;
     subgroups_answer answer;
     put_record(record, "abB");
@@ -56,5 +56,19 @@ int main(void) {
     print_answer("write no record", &answer);
     subgroups_write_text(record, sizeof record, NULL, 0, &length, &answer);
     print_answer("write into nothing", &answer);
+    subgroups_to_numbers(NULL, 0, NULL, 0, &answer);
+    print_answer("to numbers, no words", &answer);
+    subgroups_to_numbers(record, sizeof record, NULL, 0, &answer);
+    print_answer("to numbers into nothing", &answer);
+    subgroups_to_numbers(record, sizeof record, numbers, sizeof numbers, &answer);
+    print_answer("to numbers", &answer);
+    subgroups_from_numbers(NULL, 0, NULL, 0, &answer);
+    print_answer("from numbers, no words", &answer);
+    subgroups_from_numbers(numbers, sizeof numbers, NULL, 0, &answer);
+    print_answer("from numbers into nothing", &answer);
+    subgroups_tidy_numbers(NULL, 0, NULL, 0, &answer);
+    print_answer("tidy numbers, no words", &answer);
+    subgroups_tidy_numbers(numbers, sizeof numbers, NULL, 0, &answer);
+    print_answer("tidy numbers into nothing", &answer);
     return 0;
 }

@@ -47,6 +47,16 @@ static void expect_read(enum subgroups_refusal refusal, const char *name, const 
     expect(refusal, name, &answer);
 }
 
+/* Returns the words ab and b from numbers to letters, where one number is changed. */
+static void expect_number(enum subgroups_refusal refusal, const char *name, size_t place, uint8_t number) {
+    uint8_t numbers[2 * SUBGROUPS_NUMBERS_RECORD];
+    subgroups_answer answer;
+    subgroups_to_numbers(system_of_two, 2 * SUBGROUPS_RECORD, numbers, sizeof numbers, &answer);
+    numbers[place] = number;
+    subgroups_from_numbers(numbers, sizeof numbers, words, sizeof words, &answer);
+    expect(refusal, name, &answer);
+}
+
 int main(void) {
     static const char *const given[2] = {"ab", "b"};
     uint8_t longest[SUBGROUPS_RECORD];
@@ -90,5 +100,8 @@ int main(void) {
     expect_read(SUBGROUPS_TEXT_MALFORMED, "text malformed", "(ab)^-c");
     expect_read(SUBGROUPS_NESTING_TOO_DEEP, "nesting too deep", "(((((((([a,b]))))))))");
     expect_read(SUBGROUPS_EXPONENT_OUT_OF_RANGE, "exponent out of range", "(ab)^64");
+
+    expect_number(SUBGROUPS_NUMBERS_MALFORMED, "numbers malformed", 132, 1);
+    expect_number(SUBGROUPS_NUMBER_WITHOUT_LETTER, "number without letter", 2, 27);
     return wrong;
 }

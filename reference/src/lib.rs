@@ -2,22 +2,26 @@
 //! A plain Rust version, written from the requirements alone (docs/REQUIREMENTS.md), to compare the
 //! proved library with. All that judges is the plain reading of them; quick_search.rs and
 //! quick_text.rs serve timing. The calls are tidy, reduce, test, ask, member, replay, multiply, show,
-//! read_text and write_text.
+//! read_text, write_text, to_numbers, from_numbers and tidy_numbers.
 
 pub mod answers;
 pub mod asking;
 pub mod decision;
 pub mod elements;
 pub mod factoring;
+pub mod from_numbers;
 pub mod graph;
 pub mod measured;
 pub mod membership;
 pub mod moves;
 pub mod multiply;
+pub mod number_sheets;
+pub mod numbers;
 pub mod program;
 pub mod quick_search;
 pub mod quick_text;
 pub mod random;
+pub mod random_numbers;
 pub mod random_text;
 pub mod read_text;
 pub mod records;
@@ -31,6 +35,8 @@ pub mod small;
 pub mod text;
 pub mod text_sheets;
 pub mod tidy;
+pub mod tidy_numbers;
+pub mod to_numbers;
 pub mod words;
 pub mod write_text;
 
@@ -39,12 +45,15 @@ mod consistency;
 #[cfg(test)]
 mod independence_tests;
 #[cfg(test)]
+mod number_tests;
+#[cfg(test)]
 mod refusal_tests;
 #[cfg(test)]
 mod text_tests;
 
 pub use answers::Answer;
 pub use asking::ask;
+pub use from_numbers::from_numbers;
 pub use membership::member;
 pub use multiply::multiply;
 pub use read_text::read_text;
@@ -53,4 +62,6 @@ pub use reduction::reduce;
 pub use replay::{replay, Direction};
 pub use show::show;
 pub use tidy::tidy;
+pub use tidy_numbers::tidy_numbers;
+pub use to_numbers::to_numbers;
 pub use write_text::write_text;

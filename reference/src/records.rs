@@ -40,8 +40,8 @@ fn record_letters(record: &[u8; RECORD]) -> Result<&[u8], Refusal> {
     Ok(letters)
 }
 
-/// Checks a system by rules 1 to 5, of which 2 comes first, and freely reduces its words.
-pub fn read_system(system: &[u8]) -> Result<System, Refusal> {
+/// The records of a system, by rules 1 and 2, of which 2 comes first.
+fn records_of_system(system: &[u8]) -> Result<&[[u8; RECORD]], Refusal> {
     if system.len() > LONGEST_SYSTEM {
         return Err(Refusal::new(SYSTEM_TOO_LONG, 0));
     }
@@ -49,18 +49,36 @@ pub fn read_system(system: &[u8]) -> Result<System, Refusal> {
     if !rest.is_empty() {
         return Err(Refusal::new(SYSTEM_UNEVEN, 0));
     }
+    Ok(records)
+}
+
+/// The letters of the record in a slot, by rules 3 to 5 with the place in the system.
+fn letters_in_slot(slot: usize, record: &[u8; RECORD]) -> Result<&[u8], Refusal> {
+    record_letters(record).map_err(|fault| Refusal {
+        place: fault.place + (RECORD * slot) as u64,
+        ..fault
+    })
+}
+
+/// Checks a system by rules 1 to 5, of which 2 comes first, and freely reduces its words.
+pub fn read_system(system: &[u8]) -> Result<System, Refusal> {
+    let records = records_of_system(system)?;
     let mut system = System {
         words: [Word::EMPTY; MOST_RECORDS],
         count: records.len(),
     };
     for (slot, record) in records.iter().enumerate() {
-        let letters = record_letters(record).map_err(|fault| Refusal {
-            place: fault.place + (RECORD * slot) as u64,
-            ..fault
-        })?;
-        system.words[slot] = Word::freely_reduced(letters);
+        system.words[slot] = Word::freely_reduced(letters_in_slot(slot, record)?);
     }
     Ok(system)
+}
+
+/// Checks a system by rules 1 to 5, of which 2 comes first, and gives the letters of each word as they
+/// stand there.
+pub fn read_system_as_given(system: &[u8]) -> Result<Vec<&[u8]>, Refusal> {
+    let records = records_of_system(system)?.iter().enumerate();
+    let letters = records.map(|(slot, record)| letters_in_slot(slot, record));
+    letters.collect()
 }
 
 /// The letters of a target or product, or refusal 6.

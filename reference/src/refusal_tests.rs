@@ -4,7 +4,7 @@
 use crate::answers::{Answer, DONE, MEMBER, NOT_A_MEMBER};
 use crate::records::{record, system};
 use crate::refusals::*;
-use crate::{ask, member, multiply, reduce, replay, show, test, tidy, Direction};
+use crate::{ask, member, multiply, reduce, replay, show, test, tidy, to_numbers, Direction};
 
 const FILL: u8 = 0xEE;
 
@@ -15,7 +15,7 @@ fn refused(number: u64, place: usize) -> Answer {
 
 /// The answers of every call to this system, with a target, a product and a log that are too short,
 /// and with little room, of which the last 8 bytes are a log of 5 and a product buffer of 3.
-fn answers_of_every_call(given: &[u8], words: &mut [u8; 64], rest: &mut [u8; 8]) -> [Answer; 8] {
+fn answers_of_every_call(given: &[u8], words: &mut [u8; 64], rest: &mut [u8; 8]) -> [Answer; 9] {
     let (log, product) = rest.split_at_mut(5);
     let replayed = Direction::BOTH.map(|direction| replay(given, b"a1", direction, words));
     [
@@ -27,6 +27,7 @@ fn answers_of_every_call(given: &[u8], words: &mut [u8; 64], rest: &mut [u8; 8])
         replayed[0],
         replayed[1],
         multiply(given, b"bad", words),
+        to_numbers(given, words),
     ]
 }
 
@@ -34,7 +35,7 @@ fn answers_of_every_call(given: &[u8], words: &mut [u8; 64], rest: &mut [u8; 8])
 fn every_call_refuses(given: &[u8], number: u64, place: usize) {
     let (mut words, mut rest) = ([FILL; 64], [FILL; 8]);
     let answers = answers_of_every_call(given, &mut words, &mut rest);
-    assert_eq!(answers, [refused(number, place); 8], "{}", given.len());
+    assert_eq!(answers, [refused(number, place); 9], "{}", given.len());
     assert_eq!((words, rest), ([FILL; 64], [FILL; 8]));
 }
 
@@ -94,6 +95,7 @@ fn telling_lengths() {
     let given = &given[..1024];
     let (mut words, mut log) = ([FILL; 1024], [FILL; 60]);
     assert_eq!(tidy(given, &mut words), Answer::done());
+    assert_eq!(to_numbers(given, &mut [FILL; 2048]), Answer::done());
     assert_eq!(test(given), Answer::done());
     for direction in Direction::BOTH {
         assert_eq!(replay(given, b"", direction, &mut words), Answer::done());

@@ -18,6 +18,8 @@ pub const SYSTEM_NOT_REDUCED: u64 = 15;
 pub const TEXT_MALFORMED: u64 = 16;
 pub const NESTING_TOO_DEEP: u64 = 17;
 pub const EXPONENT_OUT_OF_RANGE: u64 = 18;
+pub const NUMBERS_MALFORMED: u64 = 19;
+pub const NUMBER_WITHOUT_LETTER: u64 = 20;
 
 /// A refusal's number and place.
 #[derive(Clone, Copy, Debug, PartialEq, Eq)]

@@ -8,6 +8,7 @@ mod ask;
 mod entries;
 mod member;
 mod multiply;
+mod numbers;
 mod reduce;
 mod replay;
 mod test;
@@ -26,4 +27,5 @@ fn main() {
     member::bench();
     ask::bench();
     text::bench();
+    numbers::bench();
 }

@@ -1,16 +1,16 @@
 //! The comparison of one entry: the buffers that are lent again and again, the two calls, the count
 //! of those that agreed, and the report of the first that did not, which ends the program.
 
-use crate::by_length::{check_by_length, demanded, number_by_length};
+use crate::by_length::Form;
 use crate::entries::Entry;
 use crate::inputs::{for_each_length, rooms, EVERY_LENGTH, LONG_LENGTHS};
 use crate::lent::{LentAnswer, Pair};
+use crate::numbers::for_each_length_of_numbers;
 use std::array::from_fn;
 use std::collections::BTreeSet;
 use std::process::exit;
 use subgroups_reference::answers::{Answer, REFUSED};
 use subgroups_reference::records::RECORD;
-use subgroups_reference::refusals::{LETTER_AFTER_STOP, SYSTEM_UNEVEN};
 
 /// The names of the verdicts, in the order of their numbers.
 const VERDICTS: [&str; 3] = ["done", "member", "not a member"];
@@ -20,7 +20,7 @@ const VERDICTS: [&str; 3] = ["done", "member", "not a member"];
 pub struct Seen {
     pub calls: u64,
     verdicts: [u64; 3],
-    refusals: [u64; 19],
+    refusals: [u64; 21],
     /// How many systems were reduced.
     pub reduced: u64,
     pub most_moves: u64,
@@ -47,8 +47,8 @@ pub type Check<const INPUTS: usize, const BUFFERS: usize> =
 pub struct Comparison<const INPUTS: usize, const BUFFERS: usize> {
     name: &'static str,
     entry: Entry<INPUTS, BUFFERS>,
-    /// Whether the first input is a system.
-    has_system: bool,
+    /// What the first input consists of, if it is a system.
+    system: Option<Form>,
     inputs: [Pair; INPUTS],
     buffers: [Pair; BUFFERS],
     proved: LentAnswer,
@@ -71,7 +71,7 @@ impl<const INPUTS: usize, const BUFFERS: usize> Comparison<INPUTS, BUFFERS> {
         Comparison {
             name,
             entry,
-            has_system: true,
+            system: Some(Form::Letters),
             inputs: inputs.map(Pair::new),
             buffers: buffers.map(Pair::new),
             proved: LentAnswer::new(),
@@ -79,6 +79,19 @@ impl<const INPUTS: usize, const BUFFERS: usize> Comparison<INPUTS, BUFFERS> {
             another_check: None,
             refusal_check: None,
             seen: Seen::default(),
+        }
+    }
+
+    /// The comparison of an entry whose first input is a system of numbers.
+    pub fn of_numbers(
+        name: &'static str,
+        entry: Entry<INPUTS, BUFFERS>,
+        inputs: [&'static str; INPUTS],
+        buffers: [&'static str; BUFFERS],
+    ) -> Self {
+        Comparison {
+            system: Some(Form::Numbers),
+            ..Comparison::new(name, entry, inputs, buffers)
         }
     }
 
@@ -90,7 +103,7 @@ impl<const INPUTS: usize, const BUFFERS: usize> Comparison<INPUTS, BUFFERS> {
         buffers: [&'static str; BUFFERS],
     ) -> Self {
         Comparison {
-            has_system: false,
+            system: None,
             ..Comparison::new(name, entry, inputs, buffers)
         }
     }
@@ -163,17 +176,22 @@ impl<const INPUTS: usize, const BUFFERS: usize> Comparison<INPUTS, BUFFERS> {
     /// Makes these calls with systems of every length and says how many agreed, after a look that
     /// just the lengths that demand no refusal had calls that were not refused.
     pub fn walk_lengths(&mut self, mut calls_with: impl FnMut(&mut Self, &[u8])) {
+        let form = self.system.expect("the first input is a system");
         let calls_before = self.seen.calls;
         let mut passed = BTreeSet::new();
-        for_each_length(|system| {
+        let lend = |system: &[u8]| {
             let passed_before = self.seen.not_refused();
             calls_with(self, system);
             if self.seen.not_refused() > passed_before {
                 passed.insert(system.len());
             }
-        });
+        };
+        match form {
+            Form::Letters => for_each_length(lend),
+            Form::Numbers => for_each_length_of_numbers(lend),
+        }
         let name = self.name;
-        let expected = (0..=EVERY_LENGTH).filter(|&length| number_by_length(length).is_none());
+        let expected = (0..=EVERY_LENGTH).filter(|&length| form.number_by_length(length).is_none());
         assert!(passed.into_iter().eq(expected), "{name} and lengths");
         let calls = self.seen.calls - calls_before;
         println!(
@@ -191,9 +209,10 @@ impl<const INPUTS: usize, const BUFFERS: usize> Comparison<INPUTS, BUFFERS> {
         self.buffers[buffer].rust.part()
     }
 
-    /// The length of the system that was lent to the last call, if one was.
-    fn system_length(&self) -> Option<usize> {
-        self.has_system.then(|| self.inputs[0].rust.part().len())
+    /// The form and the length of the system that was lent to the last call, if one was.
+    fn form_and_length(&self) -> Option<(Form, usize)> {
+        let form = self.system?;
+        Some((form, self.inputs[0].rust.part().len()))
     }
 
     /// Counts the last call if both sides agree, and ends the program if they do not.
@@ -203,8 +222,8 @@ impl<const INPUTS: usize, const BUFFERS: usize> Comparison<INPUTS, BUFFERS> {
         if !same_bytes || !self.proved.holds_just(self.rust) {
             self.end_with("the two sides disagree");
         }
-        if let Some(length) = self.system_length() {
-            if let Err(fault) = check_by_length(length, self.rust) {
+        if let Some((form, length)) = self.form_and_length() {
+            if let Err(fault) = form.check_by_length(length, self.rust) {
                 self.end_with(fault);
             }
         }
@@ -233,6 +252,7 @@ impl<const INPUTS: usize, const BUFFERS: usize> Comparison<INPUTS, BUFFERS> {
     /// there is one, and just these other refusals were among them, and gives the number of calls.
     pub fn end(&self, verdicts: &[u64], refusals: &[u64]) -> u64 {
         let name = self.name;
+        let of_system = self.system.map_or(&[][..], Form::refusals);
         let mut outcomes = Vec::new();
         for ((number, verdict), count) in (0..).zip(VERDICTS).zip(self.seen.verdicts) {
             if count > 0 {
@@ -245,8 +265,7 @@ impl<const INPUTS: usize, const BUFFERS: usize> Comparison<INPUTS, BUFFERS> {
             if count > 0 {
                 outcomes.push(format!("refused {number}: {count}"));
             }
-            let of_system = (SYSTEM_UNEVEN..=LETTER_AFTER_STOP).contains(&number);
-            let expected = of_system && self.has_system || refusals.contains(&number);
+            let expected = of_system.contains(&number) || refusals.contains(&number);
             assert_eq!(count > 0, expected, "{name} and refusal {number}");
         }
         let calls = self.seen.calls;
@@ -270,10 +289,10 @@ impl<const INPUTS: usize, const BUFFERS: usize> Comparison<INPUTS, BUFFERS> {
         println!("verdict, number, place, moves, rank, independent, reduced");
         println!("  proved library: {:?}", self.proved.numbers);
         println!("  Rust version:   {:?}", self.rust.numbers());
-        if let Some(length) = self.system_length() {
+        if let Some((form, length)) = self.form_and_length() {
             println!(
                 "by its length of {length} bytes alone the system is {}",
-                demanded(length)
+                form.demanded(length)
             );
         }
         if !self.proved.alone_written() {

@@ -82,6 +82,27 @@ extern "C" {
         length: *mut u64,
         answer: *mut Numbers,
     );
+    fn subgroups_to_numbers(
+        system: *const u8,
+        system_len: usize,
+        numbers: *mut u8,
+        numbers_len: usize,
+        answer: *mut Numbers,
+    );
+    fn subgroups_from_numbers(
+        numbers: *const u8,
+        numbers_len: usize,
+        words: *mut u8,
+        words_len: usize,
+        answer: *mut Numbers,
+    );
+    fn subgroups_tidy_numbers(
+        numbers: *const u8,
+        numbers_len: usize,
+        tidied: *mut u8,
+        tidied_len: usize,
+        answer: *mut Numbers,
+    );
 }
 
 /// A call of the proved library.
@@ -253,3 +274,45 @@ pub fn put_length((answer, number): (Answer, u64), length: &mut [u8]) -> Answer 
     length.copy_from_slice(&number.to_ne_bytes());
     answer
 }
+
+/// To numbers: the system; the numbers buffer.
+pub const TO_NUMBERS: Entry<1, 1> = Entry {
+    proved: |[system], [numbers], answer| unsafe {
+        subgroups_to_numbers(
+            system.as_ptr(),
+            system.len(),
+            numbers.as_mut_ptr(),
+            numbers.len(),
+            answer,
+        );
+    },
+    rust: |[system], [numbers]| reference::to_numbers(system, numbers),
+};
+
+/// From numbers: the system of numbers; the words buffer.
+pub const FROM_NUMBERS: Entry<1, 1> = Entry {
+    proved: |[numbers], [words], answer| unsafe {
+        subgroups_from_numbers(
+            numbers.as_ptr(),
+            numbers.len(),
+            words.as_mut_ptr(),
+            words.len(),
+            answer,
+        );
+    },
+    rust: |[numbers], [words]| reference::from_numbers(numbers, words),
+};
+
+/// Tidy numbers: the system of numbers; the buffer for the tidied one.
+pub const TIDY_NUMBERS: Entry<1, 1> = Entry {
+    proved: |[numbers], [tidied], answer| unsafe {
+        subgroups_tidy_numbers(
+            numbers.as_ptr(),
+            numbers.len(),
+            tidied.as_mut_ptr(),
+            tidied.len(),
+            answer,
+        );
+    },
+    rust: |[numbers], [tidied]| reference::tidy_numbers(numbers, tidied),
+};
