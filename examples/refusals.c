@@ -47,12 +47,12 @@ static void expect_read(enum subgroups_refusal refusal, const char *name, const 
     expect(refusal, name, &answer);
 }
 
-/* Returns the words ab and b from numbers to letters, where one number is changed. */
-static void expect_number(enum subgroups_refusal refusal, const char *name, size_t place, uint8_t number) {
+/* Takes the words ab and b from numbers back to letters, where one byte is changed. */
+static void expect_number(enum subgroups_refusal refusal, const char *name, size_t place, uint8_t byte) {
     uint8_t numbers[2 * SUBGROUPS_NUMBERS_RECORD];
     subgroups_answer answer;
     subgroups_to_numbers(system_of_two, 2 * SUBGROUPS_RECORD, numbers, sizeof numbers, &answer);
-    numbers[place] = number;
+    numbers[place] = byte;
     subgroups_from_numbers(numbers, sizeof numbers, words, sizeof words, &answer);
     expect(refusal, name, &answer);
 }

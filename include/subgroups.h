@@ -62,8 +62,9 @@
  *            read_text turns a text into a record, write_text a record into a text, in which a run of equal letters is a
  *            power: aaBBB is a^2b^-3.
  *
- * Numbers    A record of numbers keeps a word as 64 signed 16-bit numbers, low byte first, in 128 bytes: up to 63 numbers from
- *            1 to 1,000, or from -1 to -1,000 for inverses, then zeros, the last always zero. a is 1, A is -1, z is 26.
+ * Numbers    A record of numbers keeps a word as 64 signed 16-bit numbers, low byte first, in 128 bytes, a negative -x as
+ *            65,536 - x (two's complement): up to 63 numbers from 1 to 1,000, or from -1 to -1,000 for inverses, then zeros,
+ *            the last always zero. a is 1, A is -1, z is 26.
  *
  *                byte   0    1    2    3    4    5    6    ..   127
  *                aBc    1    0    254  255  3    0    0    ..   0

@@ -193,8 +193,8 @@ module _ (r : List ℕ) (at : ℕ) (back : Bool) (sized : length r ≡ 128) (e :
 
   pub word_lettered : back ≡ true → AllWithin26 (numbers_word r)
   unfolding numbers_rules
-  word_lettered there =
-      let passed : within_26_rule (numbers_in r) at ≡ Ok tt = rw there at (fine_next (layout_rule 63 (numbers_in r) at) _ e) in
+  word_lettered is_back =
+      let passed : within_26_rule (numbers_in r) at ≡ Ok tt = rw is_back at (fine_next (layout_rule 63 (numbers_in r) at) _ e) in
       each_take (λ x. within_26 x ≡ true) (prefix_len (λ x. not (is_zero x)) (take 63 (numbers_in r))) (take 63 (numbers_in r))
       (each_take (λ x. within_26 x ≡ true) 63 (numbers_in r) (numbers_passed within_26 NumberWithoutLetter (numbers_in r) at passed))
 

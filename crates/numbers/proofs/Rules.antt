@@ -114,12 +114,12 @@ module _ (bytes : List ℕ) (at : ℕ) {numbers : List ℕ} (read : numbers ≡ 
   unfolding numbers_rules
   refused_layout back bad = then_failed (layout_rule 63 (numbers_in bytes) at) _ judged bad
 
-  pub on_the_way_there : {back : Bool} → back ≡ false → x ≡ Ok tt → x ≡ numbers_rules back bytes at
+  pub layout_alone : {back : Bool} → back ≡ false → x ≡ Ok tt → x ≡ numbers_rules back bytes at
   unfolding numbers_rules
-  on_the_way_there there fine = then_fine (layout_rule 63 (numbers_in bytes) at) _ judged fine (rw there fine)
+  layout_alone alone fine = then_fine (layout_rule 63 (numbers_in bytes) at) _ judged fine (rw alone fine)
 
   pub on_the_way_back : {back : Bool} {y : Checked} → back ≡ true → x ≡ Ok tt → y ≡ within_26_rule numbers at → y ≡ numbers_rules back bytes at
   unfolding numbers_rules
-  on_the_way_back there fine told =
+  on_the_way_back is_back fine told =
       then_fine (layout_rule 63 (numbers_in bytes) at) _ judged fine
-      (rw there (told ∙ ap (λ (r : List ℕ). within_26_rule r at) read))
+      (rw is_back (told ∙ ap (λ (r : List ℕ). within_26_rule r at) read))

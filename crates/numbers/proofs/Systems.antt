@@ -1,4 +1,4 @@
--- Systems of records of numbers: the record in a slot, and the words of a system, each changed and written into its slot.
+-- Systems of numbers: the record in a slot, and the words of a system, each changed and written into its slot.
 use Prim.Native.Nat.{ℕ, ◌+◌, ◌*◌, ◌-◌, ◌<◌, ◌≤◌}
 use mathlib.Core.Bool.{Bool, not}
 use mathlib.Core.List.{List, [], ◌++◌, map}
@@ -68,7 +68,7 @@ module _ (item : List ℕ → List ℕ) (size : ℕ) (change : List ℕ → List
   slots_all : (k : ℕ) (buffer out : List ℕ) → k ≡ n → out ≡ flat_map item (take k words) ++ drop (k * size) buffer → out ≡ written (flat_map item words) buffer
   slots_all k buffer out all here = parts_all item size [] words all_sized k buffer out (omega (arith, all, count)) here
 
--- the three calls: what they have written when they come to a slot
+-- the words that each of the three calls writes
 abbrev pub numbered : List ℕ → List (List ℕ)
 numbered s = map (map letter_number) (system_of s)
 
@@ -78,6 +78,7 @@ lettered n = map (map number_letter) (numbers_system_of n)
 abbrev pub reduced : List ℕ → List (List ℕ)
 reduced n = map (freely_reduce signed_numbers) (numbers_system_of n)
 
+-- what each call has written when it comes to a slot
 module _ (s : List ℕ) where
   number_size : (k : ℕ) → length (numbers_record (map letter_number (word_at s k))) ≡ 128
   number_size k = numbers_record-length (map letter_number (word_at s k)) (omega (arith, length-map (word_at s k) letter_number, word-short (record_at s k)))

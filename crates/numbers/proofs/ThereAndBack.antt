@@ -165,7 +165,6 @@ module _ (s : List ℕ) (e : system_rules s ≡ Ok tt) where
   count : length (numbered s) ≡ slots s
   count = length-map (system_of s) (map letter_number) ∙ system-length s
 
-  -- "Going there and back gives the same bytes"
   pub number_words : (k : ℕ) → k < slots s → numbers_word (numbers_record_at (as_numbers s) k) ≡ map letter_number (word_at s k)
   unfolding as_numbers
   number_words k h =
@@ -180,6 +179,7 @@ module _ (s : List ℕ) (e : system_rules s ≡ Ok tt) where
   unfolding as_numbers
   there_accepted back = words_pass (numbered s) words_short words_numbers back (λ b. words_lettered) (omega (arith, count, system-few s e))
 
+  -- "Going there and back gives the same bytes"
   pub there_same : as_letters (as_numbers s) ≡ s
   unfolding as_letters as_numbers
   there_same =
@@ -213,7 +213,6 @@ module _ (n : List ℕ) (e : numbers_system_rules true n ≡ Ok tt) where
   letters_short : AllShort (lettered n)
   letters_short = short_map number_letter (numbers_system_of n) (read_short n true e)
 
-  -- "and so does back and there for numbers within 26"
   pub back_accepted : system_rules (as_letters n) ≡ Ok tt
   unfolding as_letters
   back_accepted =
@@ -226,6 +225,7 @@ module _ (n : List ℕ) (e : numbers_system_rules true n ≡ Ok tt) where
       ∙ get_or-map (map number_letter) (numbers_system_of n) k [] [] (omega (arith, h, words-length n true e))
       ∙ ap (map number_letter) (below_at (λ j. numbers_word (numbers_record_at n j)) (numbers_slots n) k [] h)
 
+  -- "and so does back and there for numbers within 26"
   pub back_same : ((i : ℕ) → get_or n i 0 < 256) → as_numbers (as_letters n) ≡ n
   unfolding as_letters as_numbers
   back_same fits =

@@ -29,7 +29,7 @@ pub record CameBack (n s : List ℕ) : Type 0 where
   pub there : (numbers : List ℕ) → length n ≤ length numbers → to_numbers_buffer s numbers ≡ written n numbers
 
 -- the numbers t that tidy_numbers wrote for the numbers n: a system of numbers too, and in each slot the word that free reduction leaves of the
--- given one
+-- given one. "freely reduce every record of a system of numbers"
 pub record TidiedNumbers (n t : List ℕ) : Type 0 where
   pub system : numbers_system_rules false t ≡ Ok tt
   pub words : (k : ℕ) → k < numbers_slots n → FreelyReducesTo signed_numbers (numbers_word (numbers_record_at n k)) (numbers_word (numbers_record_at t k))

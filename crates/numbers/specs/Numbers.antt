@@ -11,7 +11,7 @@ flip_number x = cond (ltb x 65536) ((65536 - x) % 65536) x
 abbrev pub signed_numbers : Alphabet ℕ
 signed_numbers = record { flip = flip_number; same = eqb }
 
--- x for x and for -x
+-- the absolute value: x for a number x, and for -x
 abbrev pub absolute_value : ℕ → ℕ
 absolute_value x = min x (65536 - x)
 

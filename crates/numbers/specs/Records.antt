@@ -17,7 +17,7 @@ numbers_in (low ∷ high ∷ r) = (low + high * 256) ∷ numbers_in r
 abbrev pub is_zero : ℕ → Bool
 is_zero x = eqb x 0
 
--- the word in a record, the numbers before the first zero
+-- the word in a record: of its first 63 numbers those before the first zero
 abbrev pub numbers_word : List ℕ → List ℕ
 numbers_word r = take_while (λ x. not (is_zero x)) (take 63 (numbers_in r))
 

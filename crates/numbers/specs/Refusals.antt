@@ -14,7 +14,8 @@ abbrev pub each_number : (ℕ → Bool) → Reason → List ℕ → ℕ → Chec
 each_number test why [] at = Ok tt
 each_number test why (x ∷ r) at = must (test x) why at and_then each_number test why r (at + 2)
 
--- 19. "A record of numbers breaks its layout": so many numbers at most, and then zeros
+-- 19. "A record of numbers breaks its layout: a number is not from -1,000 to 1,000, or one that is not zero stands after a zero or is the last of
+-- the record." So many numbers at most, and then zeros
 abbrev pub layout_rule : ℕ → List ℕ → ℕ → Checked
 layout_rule most [] at = Ok tt
 layout_rule zero (x ∷ r) at = each_number is_zero NumbersMalformed (x ∷ r) at
@@ -39,10 +40,11 @@ numbers_system_rules back n =
     must (leb (length n) 2048) SystemTooLong 0 and_then must (eqb (length n % 128) 0) SystemUneven 0
     and_then each_below (numbers_slot_rules back n) (numbers_slots n)
 
--- the tests of a system of letters, and then 10: room for as many records of numbers
+-- the tests of a system of letters, and then 10. "The buffer of to numbers or tidy numbers is shorter than 128 times the records"
 unfoldable pub letters_room : List ℕ → ℕ → Checked
 letters_room s room = system_rules s and_then word_room (slots s * 128) room
 
--- the tests of a system of numbers, and then 10: room for as many records, each of `size` bytes
+-- the tests of a system of numbers, and then 10: room for as many records, each of `size` bytes. "The buffer of to numbers or tidy numbers is
+-- shorter than 128 times the records, that of from numbers than 64 times."
 unfoldable pub numbers_room : Bool → List ℕ → ℕ → ℕ → Checked
 numbers_room back n size room = numbers_system_rules back n and_then word_room (numbers_slots n * size) room

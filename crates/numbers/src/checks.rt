@@ -1,4 +1,4 @@
-// The tests of a system of records of numbers, refusals 1, 2, 19 and 20, and of the room for as many records, refusal 10.
+// The tests of a system of numbers, refusals 1, 2, 19 and 20, and of the room for as many records, refusal 10.
 ghost use Rattle.std.specs.Prelude.{◌≤◌, ◌≡◌, Bool};
 ghost use Rattle.numbers.specs.Refusals.{letters_room, numbers_room, numbers_system_rules};
 

@@ -1,4 +1,4 @@
-// Systems of records of numbers: records of letters written as numbers, the way back, and numbers freely reduced.
+// Systems of numbers: records of letters written as numbers, the way back, and numbers freely reduced.
 #![tactic(auto)]
 
 ghost use Rattle.std.specs.Prelude.{◌*◌, ◌≡◌, length, map, take};

@@ -78,7 +78,7 @@ pub data Sheet : Type 0 where
   not_returned : String → List (List ℕ) → ℕ → Verdict → Sheet
   -- numbers, the length of the buffer, the verdict of tidy_numbers, and the buffer afterwards
   tidies_numbers : String → List (List ℕ) → ℕ → Verdict → List ℕ → Sheet
-  -- a length of numbers, and the reason of the refusal that tidy_numbers gives to all numbers of that length
+  -- a length in bytes, and the reason of the refusal that tidy_numbers gives to every system of numbers of that length
   refuses_numbers : String → ℕ → Reason → Sheet
   -- words on the program's standard input, the last one the target, and the lines that it prints
   prints : String → List String → List String → Sheet

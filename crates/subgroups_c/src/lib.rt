@@ -222,7 +222,7 @@ pub extern "C" fn subgroups_write_text(
     *numbers = Answer { verdict }.numbers();
 }
 
-// To numbers: each record of a system as a record of signed numbers, in the same slot of the numbers buffer.
+// To numbers: each record of a system as a record of numbers, in the same slot of the numbers buffer.
 #[unsafe(no_mangle)]
 pub extern "C" fn subgroups_to_numbers(system: &[u8], numbers: &mut [u8], answer: &mut [u64; 7])
     ensures numbers { numbers.new ≡ to_numbers_buffer system.now numbers.old }
@@ -233,7 +233,7 @@ pub extern "C" fn subgroups_to_numbers(system: &[u8], numbers: &mut [u8], answer
     *answer = told.numbers();
 }
 
-// From numbers: each record of signed numbers as a record of letters, in the same slot of the words buffer.
+// From numbers: each record of numbers as a record of letters, in the same slot of the words buffer.
 #[unsafe(no_mangle)]
 pub extern "C" fn subgroups_from_numbers(numbers: &[u8], words: &mut [u8], answer: &mut [u64; 7])
     ensures words { words.new ≡ from_numbers_buffer numbers.now words.old }
@@ -244,7 +244,7 @@ pub extern "C" fn subgroups_from_numbers(numbers: &[u8], words: &mut [u8], answe
     *answer = told.numbers();
 }
 
-// Tidy numbers: each record of signed numbers, freely reduced, in the same slot of the tidied buffer.
+// Tidy numbers: each record of numbers, freely reduced, in the same slot of the tidied buffer.
 #[unsafe(no_mangle)]
 pub extern "C" fn subgroups_tidy_numbers(numbers: &[u8], tidied: &mut [u8], answer: &mut [u64; 7])
     ensures tidied { tidied.new ≡ tidy_numbers_buffer numbers.now tidied.old }

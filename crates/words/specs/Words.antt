@@ -31,7 +31,7 @@ module _ {A : Type 0} (G : Alphabet A) where
     none : {w v : List A} → w ≡ v → Removals w v
     more : {w u v : List A} → Removed w u → Removals u v → Removals w v
 
-  -- a word v that is left of a word w: some removals lead to it, "until none are left"
+  -- v is what free reduction leaves of w: some removals lead to it, "until none are left"
   pub record FreelyReducesTo (w v : List A) : Type 0 where
     pub removed : Removals w v
     pub none_left : Irreducible v

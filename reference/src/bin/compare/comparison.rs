@@ -159,7 +159,7 @@ impl<const INPUTS: usize, const BUFFERS: usize> Comparison<INPUTS, BUFFERS> {
         }
     }
 
-    /// Makes calls with every length of one buffer up to a record more than needed, and very long ones.
+    /// Makes calls with every length of one buffer up to 67 bytes more than needed, and very long ones.
     pub fn call_with_every_length(
         &mut self,
         inputs: [&[u8]; INPUTS],
@@ -273,8 +273,10 @@ impl<const INPUTS: usize, const BUFFERS: usize> Comparison<INPUTS, BUFFERS> {
         calls
     }
 
-    /// Prints the last call with what is wrong and ends the program with a failure.
+    /// Prints the last call with what is wrong and ends the program with a failure. Comparisons run
+    /// side by side, so the output is kept for this report until it is whole.
     pub fn end_with(&self, fault: &str) -> ! {
+        let _kept = std::io::stdout().lock();
         println!("{}: {fault}", self.name);
         for pair in &self.inputs {
             let bytes = pair.rust.part();
