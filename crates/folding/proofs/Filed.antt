@@ -1,0 +1,79 @@
+-- Looking up and filing, case by case.
+use Prim.Native.Nat.{ℕ, zero, suc, ◌+◌, ◌-◌, ◌<◌}
+use mathlib.Core.Path.{◌≡◌, refl, sym, ap, ◌∙◌}
+use mathlib.Core.Bool.{cond, false, not, true}
+use mathlib.Core.List.{List, ◌++◌, map}
+use native.Mathlib.Omega.{arith}
+use native.Mathlib.Numerals.{add-one}
+use lib.Dec.{eqb}
+use lib.ListN.{drop, get_or, length, set, take}
+use borrow.Author.Tests.{eq-eqb, ne_eqb}
+use Rattle.std.specs.Prelude.{None, Option, Some}
+use Rattle.std.proofs.lemmas.List.{get_or_default}
+use Rattle.std.proofs.lemmas.List.Edits.{map_over_more}
+use Rattle.graphs.specs.Graphs.{joined}
+use Rattle.graphs.specs.declared.Edge.{Edge}
+use Rattle.folding.specs.Filing.{clash, clashes, filed_leads, filed_point, folded_points, lead, leads_after, place, point, points_after}
+
+-- two points are made one in each place up to i
+pub joined_next : (one other : ℕ) (xs ys : List ℕ) (i : ℕ) {y : ℕ} → i < length xs → length ys ≡ length xs
+    → ys ≡ map (joined one other) (take i xs) ++ drop i xs → y ≡ joined one other (get_or ys i 0)
+    → set ys i y ≡ map (joined one other) (take (i + 1) xs) ++ drop (i + 1) xs
+joined_next one other xs ys i h l e is = rw (is) (map_over_more (joined one other) xs ys i (get_or ys i 0) h e (get_or_default ys i 0 (get_or ys i 0) (omega (arith, h, l))))
+
+module _ (points leads : List ℕ) where
+  module _ (p x : ℕ) where
+    pub lead_none : {at : ℕ} → at ≡ place p x → get_or leads at 0 ≡ 0 → None ≡ lead points leads p x
+    unfolding lead
+    lead_none {at = at} e h = ap (filed_point points) (sym h ∙ ap (λ (i : ℕ). get_or leads i 0) e)
+
+    pub lead_some : {at : ℕ} → at ≡ place p x → (get_or leads at 0 ≡ 0 → ⊥) → Some (get_or points (get_or leads at 0 - 1) 0) ≡ lead points leads p x
+    unfolding lead
+    lead_some {at = at} e n = go (get_or leads at 0) n ∙ ap (λ (i : ℕ). filed_point points (get_or leads i 0)) e
+      where
+        go : (q : ℕ) → (q ≡ 0 → ⊥) → Some (get_or points (q - 1) 0) ≡ filed_point points q
+        go zero n = absurd (n refl)
+        go (suc q) n = let e : suc q - 1 ≡ q = omega arith in rw (e) refl
+
+  -- the three cases of filing a step
+  module _ (e : Edge) where
+    module _ {o : Option ℕ} (is : o ≡ lead points leads (get_or points e.from 0) e.letter) (nowhere : o ≡ None) where
+      pub vacant_clashes : false ≡ clashes points leads e
+      unfolding clashes
+      vacant_clashes = ap (λ (z : Option ℕ). clash z (point points e.to)) (sym nowhere ∙ is)
+
+      pub vacant_points : points ≡ points_after points leads e
+      unfolding points_after
+      vacant_points = ap (λ (z : Option ℕ). folded_points z (point points e.to) points) (sym nowhere ∙ is)
+
+      pub vacant_set : set leads (place (get_or points e.from 0) e.letter) (suc (get_or points e.to 0)) ≡ leads_after points leads e
+      unfolding leads_after
+      vacant_set = ap (λ (z : Option ℕ). filed_leads z (point points e.to) (place (point points e.from) e.letter) leads) (sym nowhere ∙ is)
+
+      pub vacant_leads : {at : ℕ} → at ≡ place (get_or points e.from 0) e.letter → set leads at (get_or points e.to 0 + 1) ≡ leads_after points leads e
+      vacant_leads a = rw (a, add-one) vacant_set
+
+    module _ {r : ℕ} (is : Some r ≡ lead points leads (get_or points e.from 0) e.letter) where
+      to_clashes : not (eqb r (point points e.to)) ≡ clashes points leads e
+      unfolding clashes
+      to_clashes = ap (λ (z : Option ℕ). clash z (point points e.to)) is
+
+      to_points : cond (eqb r (point points e.to)) points (map (joined r (point points e.to)) points) ≡ points_after points leads e
+      unfolding points_after
+      to_points = ap (λ (z : Option ℕ). folded_points z (point points e.to) points) is
+
+      pub found_leads : leads ≡ leads_after points leads e
+      unfolding leads_after
+      found_leads = ap (λ (z : Option ℕ). filed_leads z (point points e.to) (place (point points e.from) e.letter) leads) is
+
+      pub agrees_clashes : r ≡ get_or points e.to 0 → false ≡ clashes points leads e
+      agrees_clashes same = rw (eq-eqb r (get_or points e.to 0) same) at to_clashes
+
+      pub agrees_points : r ≡ get_or points e.to 0 → points ≡ points_after points leads e
+      agrees_points same = rw (eq-eqb r (get_or points e.to 0) same) at to_points
+
+      pub differs_clashes : (r ≡ get_or points e.to 0 → ⊥) → true ≡ clashes points leads e
+      differs_clashes n = rw (ne_eqb r (get_or points e.to 0) n) at to_clashes
+
+      pub differs_points : (r ≡ get_or points e.to 0 → ⊥) → map (joined r (get_or points e.to 0)) points ≡ points_after points leads e
+      differs_points n = rw (ne_eqb r (get_or points e.to 0) n) at to_points

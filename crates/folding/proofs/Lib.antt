@@ -1,0 +1,6 @@
+pub mod Filed
+pub mod Keeping
+pub mod Sweeping
+pub mod Laying
+pub mod Tracing
+pub mod Starting

@@ -1,0 +1,6 @@
+use Rattle.std.proofs.Common.{rules}
+use Rattle.folding.proofs.Filed.{joined_next}
+use Rattle.folding.proofs.filing.join.Goals as goal
+
+pub loop-point-preserved : goal.loop-point-preserved
+loop-point-preserved c = search (joined_next, rules)

@@ -1,0 +1,22 @@
+-- The loops of a system in a table of edges: how many edges and points they take.
+use Rattle.std.specs.Prelude.{ℕ, ◌+◌, ◌-◌, ◌≡◌, cond, true, List, [], ◌∷◌, All, length, ltb}
+use Rattle.words.specs.Alphabet.{bytes}
+use Rattle.systems.specs.Products.{word}
+use Rattle.records.specs.Records.{is_letter}
+
+-- a word of letters alone
+abbrev pub OfLetters : List ℕ → Type 0
+OfLetters w = All (λ x. is_letter x ≡ true) w
+
+-- every word of a system is one
+abbrev pub AllOfLetters : List (List ℕ) → Type 0
+AllOfLetters S = (k : ℕ) → OfLetters (word bytes S k)
+
+-- the point to which the step along letter i of a word leads, over the new points n, n + 1 and on
+abbrev pub loop_point : List ℕ → ℕ → ℕ → ℕ
+loop_point w n i = cond (ltb (i + 1) (length w)) (n + i) 0
+
+-- the number of points, n before and those that the loops of a system take
+abbrev pub points_with_loops : ℕ → List (List ℕ) → ℕ
+points_with_loops n [] = n
+points_with_loops n (w ∷ S) = points_with_loops (n + (length w - 1)) S

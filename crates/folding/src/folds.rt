@@ -1,0 +1,54 @@
+// Edges are filed, sweep after sweep, until none are left to fold.
+ghost use Rattle.std.specs.Prelude.{◌<◌, ◌≡◌, Bool, false, length};
+ghost use Rattle.words.specs.Alphabet.{bytes};
+ghost use Rattle.graphs.specs.Graphs.{back};
+ghost use Rattle.folding.specs.Folding.{AnyStep, Folded, Folding, Swept, edge_at_turn};
+
+use crate::filing::file;
+use graphs::Edge;
+
+// An edge taken backward.
+fn back(edge: Edge) -> Edge
+    ensures { result ≡ back bytes edge }
+{
+    Edge {
+        from: edge.to,
+        letter: edge.letter ^ 32,
+        to: edge.from,
+    }
+}
+
+// The edge of a turn in a sweep from the first edge up, or from the last one down.
+fn edge_at(edges: &[Edge], down: bool, turn: usize) -> Edge
+    requires { turn < length edges.now }
+    ensures { result ≡ edge_at_turn edges.now down turn }
+{
+    let at = if down { edges.len() - 1 - turn } else { turn };
+    edges[at]
+}
+
+// Files every edge, along it and backward, and answers whether two points have become one.
+fn sweep(edges: &[Edge], down: bool, points: &mut [u16], leads: &mut [u16]) -> bool
+    requires { Folding edges.now points.old leads.old }
+    ensures { Swept edges.now points.old (AnyStep edges.now) result points.new leads.new }
+{
+    let mut changed = false;
+    for turn in 0..edges.len() {
+        let edge = edge_at(edges, down, turn);
+        let along = file(points, leads, edge);
+        let backward = file(points, leads, back(edge));
+        changed = changed | along | backward;
+    }
+    changed
+}
+
+// Folds edges until none are left to fold: sweeps up and down by turns.
+pub fn fold(edges: &[Edge], points: &mut [u16], leads: &mut [u16])
+    requires { Folding edges.now points.old leads.old }
+    ensures { Folded edges.now points.new leads.new }
+{
+    let mut down = false;
+    while sweep(edges, down, points, leads) {
+        down = !down;
+    }
+}

@@ -1,0 +1,59 @@
+-- Two points made one: which numbers that changes, and that it makes none larger.
+use Prim.Native.Nat.{ℕ, ◌≤◌, max, min}
+use mathlib.Core.Path.{◌≡◌, ◌∙◌}
+use mathlib.Core.Logic.{◌⊎◌, inl, inr}
+use native.Mathlib.Omega.{arith}
+use native.Mathlib.Decide.{ℕ_discrete}
+use borrow.Author.Tests.{eq-eqb, ne_eqb}
+use Rattle.graphs.specs.Graphs.{joined}
+
+pub joined_larger : (p q r : ℕ) → r ≡ max p q → joined p q r ≡ min p q
+joined_larger p q r e = rw (eq-eqb r (max p q) e)
+
+pub joined-same : (p q r : ℕ) → (r ≡ max p q → ⊥) → joined p q r ≡ r
+joined-same p q r n = rw (ne_eqb r (max p q) n)
+
+-- a point stays, or it is the larger one of the two
+pub joined_cases : (p q r : ℕ) → (joined p q r ≡ r) ⊎ ((r ≡ max p q) × (joined p q r ≡ min p q))
+joined_cases p q r = elim (ℕ_discrete r (max p q)) [
+  | yes e ↦ inr (e, joined_larger p q r e)
+  | no n ↦ inl (joined-same p q r n)
+]
+
+pub joined-le : (p q r : ℕ) → joined p q r ≤ r
+joined-le p q r = elim (joined_cases p q r) [
+  | inl e ↦ omega (arith, e)
+  | inr h ↦ omega (arith, h.0, h.1)
+]
+
+pub joined_base : (p q : ℕ) → joined p q 0 ≡ 0
+joined_base p q = omega (arith, joined-le p q 0)
+
+pub joined_one : (p q : ℕ) → joined p q p ≡ min p q
+joined_one p q = elim (joined_cases p q p) [
+  | inl e ↦ elim (ℕ_discrete p (max p q)) [
+    | yes h ↦ joined_larger p q p h
+    | no n ↦ e ∙ omega arith
+  ]
+  | inr h ↦ h.1
+]
+
+pub joined_other : (p q : ℕ) → joined p q q ≡ min p q
+joined_other p q = elim (joined_cases p q q) [
+  | inl e ↦ elim (ℕ_discrete q (max p q)) [
+    | yes h ↦ joined_larger p q q h
+    | no n ↦ e ∙ omega arith
+  ]
+  | inr h ↦ h.1
+]
+
+-- made one once more, they stay as they are
+pub joined_twice : (p q r : ℕ) → joined p q (joined p q r) ≡ joined p q r
+joined_twice p q r = elim (joined_cases p q r) [
+  | inl e ↦ rw (e) e
+  | inr h ↦ rw (h.1) (go (joined_cases p q (min p q)))
+]
+  where
+    go : (joined p q (min p q) ≡ min p q) ⊎ ((min p q ≡ max p q) × (joined p q (min p q) ≡ min p q)) → joined p q (min p q) ≡ min p q
+    go (inl e) = e
+    go (inr h) = h.1

@@ -1,0 +1,10 @@
+pub mod Contained
+pub mod Joined
+pub mod Cosets
+pub mod Steps
+pub mod Paths
+pub mod Folds
+pub mod Walks
+pub mod Clashes
+pub mod Roses
+pub mod Deciding

@@ -1,0 +1,85 @@
+-- The walk along a graph finds a path where there is one, and in a graph in which no fold is left that is the only one.
+use Prim.Native.Nat.{ℕ}
+use mathlib.Core.Path.{◌≡◌, refl, sym, ap, ◌∙◌}
+use mathlib.Core.Logic.{◌↔◌, ◌⊎◌, inl, inr}
+use mathlib.Core.Bool.{Bool, true, false, cond, ◌&&◌, true≢false}
+use mathlib.Core.List.{List, [], ◌∷◌}
+use lib.Dec.{eqb}
+use borrow.Author.Tests.{eq-eqb, eqb-true}
+use Rattle.std.specs.Prelude.{Contains, None, Option, Some}
+use Rattle.std.proofs.lemmas.Option.{none-some, same_Some}
+use Rattle.words.specs.Alphabet.{Alphabet}
+use Rattle.words.specs.Words.{freely_reduce}
+use Rattle.words.proofs.Alphabet.{AlphabetLaws, same_yes}
+use Rattle.graphs.specs.declared.Edge.{Edge}
+use Rattle.graphs.specs.Folding.{first_to, leads, traces_back, walk}
+use Rattle.graphs.specs.Graphs.{NoneLeft, Path, Step, edge, steps}
+use Rattle.graphs.proofs.Contained.{contains-cons_cases, contains-nil, contains_head, contains_tail}
+
+module _ (G : Alphabet ℕ) (L : AlphabetLaws G) where
+  open G use {same}
+  open L use {same_sound}
+
+  leaving : (a b : Bool) → a && b ≡ true → (a ≡ true) × (b ≡ true)
+  leaving true true e = (refl, refl)
+  leaving true false e = absurd (true≢false (sym e))
+  leaving false b e = absurd (true≢false (sym e))
+
+  pub first_to_sound : (s : List Edge) (p x q : ℕ) → first_to G s p x ≡ Some q → Contains s (edge p x q)
+  unfolding first_to
+  first_to_sound [] p x q h = absurd (none-some q h)
+  first_to_sound (e ∷ s) p x q h = go (eqb e.from p && same e.letter x) refl h (first_to_sound s p x q)
+    where
+      go : (b : Bool) → eqb e.from p && same e.letter x ≡ b → cond b (Some e.to) (first_to G s p x) ≡ Some q
+          → (first_to G s p x ≡ Some q → Contains s (edge p x q)) → Contains (e ∷ s) (edge p x q)
+      go true t k ih =
+          let a : e.from ≡ p = eqb-true e.from p (leaving (eqb e.from p) (same e.letter x) t).0 in
+          let b : e.letter ≡ x = same_sound e.letter x (leaving (eqb e.from p) (same e.letter x) t).1 in
+          rw (← a, ← b, ← same_Some e.to q k) (contains_head e s)
+      go false t k ih = contains_tail e s (edge p x q) (ih k)
+
+  pub first_to_there : (s : List Edge) (p x q : ℕ) → Contains s (edge p x q) → (r : ℕ) × (first_to G s p x ≡ Some r)
+  unfolding first_to
+  first_to_there [] p x q h = absurd (contains-nil (edge p x q) h)
+  first_to_there (e ∷ s) p x q h = go (eqb e.from p && same e.letter x) refl (contains-cons_cases e s (edge p x q) h) (first_to_there s p x q)
+    where
+      go : (b : Bool) → eqb e.from p && same e.letter x ≡ b → (edge p x q ≡ e) ⊎ Contains s (edge p x q)
+          → (Contains s (edge p x q) → (r : ℕ) × (first_to G s p x ≡ Some r)) → (r : ℕ) × (cond b (Some e.to) (first_to G s p x) ≡ Some r)
+      go true t k ih = (e.to, refl)
+      go false t (inl k) ih = absurd (true≢false (sym (rw (← k, eq-eqb p p refl, same_yes G L x x refl)) ∙ t))
+      go false t (inr k) ih = ih k
+
+  pub leads_sound : (t : List Edge) (p x q : ℕ) → leads G t p x ≡ Some q → Step G t p x q
+  leads_sound t p x q h = first_to_sound (steps G t) p x q h
+
+  pub leads_none : (t : List Edge) (p x q : ℕ) → leads G t p x ≡ None → Step G t p x q → ⊥
+  leads_none t p x q h s = let r = first_to_there (steps G t) p x q s in none-some r.0 (sym h ∙ r.1)
+
+  pub leads_step : (t : List Edge) → NoneLeft G t → (p x q : ℕ) → Step G t p x q → leads G t p x ≡ Some q
+  leads_step t n p x q s =
+      let r = first_to_there (steps G t) p x q s in
+      r.1 ∙ ap (λ (z : ℕ). Some z) (n p x r.0 q (leads_sound t p x r.0 r.1) s)
+
+  walk_sound : (t : List Edge) (w : List ℕ) (p q : ℕ) → walk G t p w ≡ Some q → Path G t p w q
+  unfolding walk
+  walk_sound t [] p q h = same_Some p q h
+  walk_sound t (x ∷ w) p q h = go (leads G t p x) refl h (walk_sound t w)
+    where
+      go : (o : Option ℕ) → leads G t p x ≡ o → (elim o as (λ z. Option ℕ) [ None ↦ None | Some m ↦ walk G t m w ]) ≡ Some q
+          → ((m q : ℕ) → walk G t m w ≡ Some q → Path G t m w q) → Path G t p (x ∷ w) q
+      go None e k ih = absurd (none-some q k)
+      go (Some m) e k ih = (m, leads_sound t p x m e, ih m q k)
+
+  walk_path : (t : List Edge) → NoneLeft G t → (w : List ℕ) (p q : ℕ) → Path G t p w q → walk G t p w ≡ Some q
+  unfolding walk
+  walk_path t n [] p q h = ap (λ (z : ℕ). Some z) h
+  walk_path t n (x ∷ w) p q h = rw (leads_step t n p x h.0 h.1, walk) (walk_path t n w h.0 q h.2)
+
+  pub traces_back_path : (t : List Edge) → NoneLeft G t → (w : List ℕ) → (traces_back G t w ≡ true) ↔ Path G t 0 (freely_reduce G w) 0
+  unfolding traces_back
+  traces_back_path t n w = (go (walk G t 0 (freely_reduce G w)) refl, λ h. rw (walk_path t n (freely_reduce G w) 0 0 h, traces_back) refl)
+    where
+      go : (o : Option ℕ) → walk G t 0 (freely_reduce G w) ≡ o → (elim o as (λ z. Bool) [ None ↦ false | Some q ↦ eqb q 0 ]) ≡ true
+          → Path G t 0 (freely_reduce G w) 0
+      go None e h = absurd (true≢false (sym h))
+      go (Some q) e h = walk_sound t (freely_reduce G w) 0 0 (e ∙ ap (λ (z : ℕ). Some z) (eqb-true q 0 h))
