@@ -66,7 +66,7 @@ product-accepted W P t system target over word room enough =
     rw (system, target, slots_pass (slots W) (word_of P) 0 named, le-leb 64 room enough, le-leb _ 63 short)
 
 -- the two verdicts
-apart : (v : Verdict) → v ≡ Member → v ≡ NotMember → ⊥
+pub apart : (v : Verdict) → v ≡ Member → v ≡ NotMember → ⊥
 apart v e h = let z : ◌≡◌ {A = ℕ} 0 1 = cc in omega arith
 
 pub verdict_cases : (v : Verdict) (o : Option (List Factor)) → v ≡ verdict_of (is_found o) → Answered v
@@ -197,7 +197,7 @@ decides-equivalent s t W P v same decided =
     }
 
 -- an answer that is one of the two verdicts comes from a call that passed its tests
-answered_fine : (c : Checked) (v : Verdict) → Answered (asked_of c v).verdict → c ≡ Ok tt
+pub answered_fine : (c : Checked) (v : Verdict) → Answered (asked_of c v).verdict → c ≡ Ok tt
 answered_fine (Ok _) v h = refl
 answered_fine (Err f) v (inl e) = let z : ◌≡◌ {A = ℕ} 0 1 = cc in absurd (omega arith)
 answered_fine (Err f) v (inr e) = let z : ◌≡◌ {A = ℕ} 0 1 = cc in absurd (omega arith)

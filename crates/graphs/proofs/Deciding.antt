@@ -1,14 +1,14 @@
 -- Stallings' theorem: in a folded graph of a system, however it was folded, a freely reduced word is that of a path from base to base exactly
 -- when the system generates it. So tracing decides what is generated, and all folded graphs of a system say the same.
-use Prim.Native.Nat.{ℕ}
-use mathlib.Core.Path.{◌≡◌, refl, sym, ap, ◌∙◌}
+use Prim.Native.Nat.{ℕ, suc}
+use mathlib.Core.Path.{◌≡◌, refl, sym, ap, ap₂, ◌∙◌}
 use mathlib.Core.Logic.{◌↔◌}
 use mathlib.Core.Bool.{Bool, true, false}
 use mathlib.Core.List.{List, [], ◌∷◌, ◌++◌, append-nil, append_assoc, map}
 use native.Mathlib.Decide.{dec_lt}
 use native.Mathlib.Omega.{arith}
 use lib.ListN.{get_or-eq_default, length}
-use Rattle.std.specs.Prelude.{Contains}
+use Rattle.std.specs.Prelude.{Contains, None, Some, eqb}
 use Rattle.std.proofs.lemmas.List.{get_or_default}
 use Rattle.std.proofs.lemmas.List.Elements.{Contains-get_or}
 use Rattle.words.specs.Alphabet.{Alphabet}
@@ -17,10 +17,10 @@ use Rattle.words.proofs.Alphabet.{AlphabetLaws}
 use Rattle.words.proofs.FreeReduction.{freely_reduce_twice}
 use Rattle.systems.specs.Products.{Generated, spelled, value, word}
 use Rattle.systems.specs.declared.Factor.{Factor}
-use Rattle.systems.proofs.Equivalence.{generated, reduced-multiplied}
+use Rattle.systems.proofs.Equivalence.{freely_reduced-same, generated, reduced-multiplied, words-freely_reduced}
 use Rattle.graphs.specs.declared.Edge.{Edge}
-use Rattle.graphs.specs.Folding.{folded_graph, member_by_graph, traces_back}
-use Rattle.graphs.specs.Graphs.{FoldedGraph, Path}
+use Rattle.graphs.specs.Folding.{folded_graph, folded_within, member_by_graph, total, traces_back, walk}
+use Rattle.graphs.specs.Graphs.{FoldedGraph, Path, loops}
 use Rattle.graphs.proofs.Clashes.{folded_graph_is}
 use Rattle.graphs.proofs.Contained.{contains_of_map}
 use Rattle.graphs.proofs.Cosets.{SameCoset, coset_generated, generated-same, same_coset_refl, same_coset_times, same_coset_trans}
@@ -81,12 +81,13 @@ module _ (G : Alphabet ℕ) (L : AlphabetLaws G) (S : List (List ℕ)) where
     generated_path w a = rw (reduced-multiplied G L S a.0, a.2) at
         (path-freely_reduce G L t g.none_left (spelled G (map (freely_reduce G) S) a.0) 0 0 (product_path a.0))
 
+    pub path_decides : (w : List ℕ) → Path G t 0 (freely_reduce G w) 0 ↔ Generated G S w
+    path_decides w = (λ h. generated-same G L S (freely_reduce G w) w (freely_reduce_twice G L w) (path_generated (freely_reduce G w) h), generated_path w)
+
     pub graph_decides : (w : List ℕ) → (traces_back G t w ≡ true) ↔ Generated G S w
     graph_decides w =
-        let traced = traces_back_path G L t g.none_left w in (
-          λ e. generated-same G L S (freely_reduce G w) w (freely_reduce_twice G L w) (path_generated (freely_reduce G w) (traced.0 e)),
-          λ a. traced.1 (generated_path w a),
-        )
+        let traced = traces_back_path G L t g.none_left w in
+        (λ e. (path_decides w).0 (traced.0 e), λ a. traced.1 ((path_decides w).1 a))
 
   -- two folded graphs of one system, however folded, say the same
   pub graphs_agree : (s t : List Edge) → FoldedGraph G S s → FoldedGraph G S t → (w : List ℕ) → traces_back G s w ≡ traces_back G t w
@@ -104,3 +105,10 @@ module _ (G : Alphabet ℕ) (L : AlphabetLaws G) (S : List (List ℕ)) where
 
   pub traces_back-member_by_graph : (t : List Edge) → FoldedGraph G S t → (w : List ℕ) → traces_back G t w ≡ member_by_graph G S w
   traces_back-member_by_graph t g w = graphs_agree t (folded_graph G S) g (folded_graph_is G L S) w
+
+  -- it makes no difference whether system and word were freely reduced before
+  pub member_by_graph-freely_reduced : (w : List ℕ) → member_by_graph G (map (freely_reduce G) S) (freely_reduce G w) ≡ member_by_graph G S w
+  unfolding traces_back
+  member_by_graph-freely_reduced w =
+      ap₂ (λ (T : List (List ℕ)) (v : List ℕ). elim (walk G (folded_within G (suc (total (loops 1 T))) (loops 1 T)) 0 v) as (λ z. Bool) [ None ↦ false | Some q ↦ eqb q 0 ])
+      (freely_reduced-same G L (map (freely_reduce G) S) (words-freely_reduced G L S)) (freely_reduce_twice G L w)

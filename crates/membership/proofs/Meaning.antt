@@ -41,7 +41,7 @@ unrefused_fine : (c : Checked) (v : Verdict) (S : List (List ℕ)) (n : ℕ) →
 unrefused_fine (Ok _) v S n h = refl
 unrefused_fine (Err f) v S n h = absurd (h f refl)
 
-answered_unrefused : (v : Verdict) → Answered v → NotRefused v
+pub answered_unrefused : (v : Verdict) → Answered v → NotRefused v
 answered_unrefused v (inl e) f h = let z : ◌≡◌ {A = ℕ} 0 1 = cc in omega arith
 answered_unrefused v (inr e) f h = let z : ◌≡◌ {A = ℕ} 0 1 = cc in omega arith
 

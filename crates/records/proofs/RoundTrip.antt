@@ -17,11 +17,12 @@ use Rattle.words.specs.Words.{freely_reduce, inverse}
 use Rattle.words.proofs.Alphabet.{byte_laws, flip_down, flip_up}
 use Rattle.words.proofs.Mapping.{Each, each_append, each_freely_reduce, each_inverse}
 use Rattle.records.specs.Records.{before_stop, blanks, is_letter, is_letter_or_stop, is_stop, not_letter, record_of, word_of}
-use Rattle.records.specs.Refusals.{each_byte, byte_rule, end_rule, letters_rule, must, order_rule, record_rules}
+use Rattle.records.specs.Refusals.{Checked, as_six, each_byte, byte_rule, end_rule, letters_rule, must, order_rule, record_rules, target_rules}
+use Rattle.records.proofs.ByNumber.{fine_never}
 use Rattle.records.proofs.Chains.{fine_first, fine_next, must_fine}
 use Rattle.records.proofs.Rules.{letter_above, letter-below, letter_between, letter_left, letter_passed}
-use Rattle.records.specs.declared.refusals.Reason.TheVariants.{LetterAfterStop, NeitherLetterNorStop, NoLineFeed}
-use Rattle.std.specs.Prelude.{Ok}
+use Rattle.records.specs.declared.refusals.Reason.TheVariants.{LetterAfterStop, NeitherLetterNorStop, NoLineFeed, TargetOrProductMalformed}
+use Rattle.std.specs.Prelude.{Err, Ok}
 
 -- a word of letters alone
 abbrev pub AllLetters : List ℕ → Type 0
@@ -99,6 +100,17 @@ pub record_letters : (r : List ℕ) (at : ℕ) → record_rules r at ≡ Ok tt �
 unfolding record_rules letters_rule
 record_letters r at e =
     before_letters (take 63 r) at (fine_first (byte_rule (take 63 r) at) (order_rule (take 63 r) at) (fine_next (end_rule r at) _ e))
+
+-- so is the word of a target that passes refusal 6
+six_fine : (c : Checked) → as_six c ≡ Ok tt → c ≡ Ok tt
+six_fine (Ok _) e = refl
+six_fine (Err f) e = absurd (fine_never TargetOrProductMalformed f.place (sym e))
+
+pub target_letters : (r : List ℕ) → target_rules r ≡ Ok tt → AllLetters (word_of r)
+unfolding target_rules
+target_letters r e =
+    record_letters r 0
+    (six_fine (record_rules r 0) (fine_next (must (eqb (length r) 64) TargetOrProductMalformed 0) (as_six (record_rules r 0)) e))
 
 -- a word of letters before full stops
 before-blanks : (n : ℕ) → before_stop (blanks n) ≡ []

@@ -24,6 +24,7 @@ pub enum Reason {
     ExponentOutOfRange = 18,
     NumbersMalformed = 19,
     NumberWithoutLetter = 20,
+    EdgeTableShort = 21,
 }
 
 // The number of a refusal.

@@ -1,7 +1,7 @@
 // The entries for C. Each calls the proved function of its name and puts the answer's numbers into a fixed array, which C sees as a struct.
 #![tactic(auto)]
 
-ghost use Rattle.std.specs.Prelude.{◌*◌, ◌≡◌, ℕ, List, [], ◌∷◌, take};
+ghost use Rattle.std.specs.Prelude.{◌*◌, ◌≡◌, ℕ, List, [], ◌∷◌, length, take};
 ghost use Rattle.records.specs.Answers.{refusal_number, refusal_place, verdict_number};
 ghost use Rattle.tidy.specs.Meaning.{Tidied};
 ghost use Rattle.tidy.specs.Tidy.{tidy_answer, tidy_buffer};
@@ -22,8 +22,11 @@ ghost use Rattle.slots.specs.Systems.{slots};
 ghost use Rattle.numbers.specs.Calls.{from_numbers_answer, from_numbers_buffer, tidy_numbers_answer, tidy_numbers_buffer, to_numbers_answer, to_numbers_buffer};
 ghost use Rattle.numbers.specs.Meaning.{CameBack, TidiedNumbers, WentThere};
 ghost use Rattle.numbers.specs.Records.{numbers_slots};
+ghost use Rattle.tracing.specs.Meaning.{AgreesWithMember, KeptWhenRefused, TraceMeans};
+ghost use Rattle.tracing.specs.Tracing.{trace_answer};
 ghost use Rattle.subgroups_c.specs.Numbers.{is_backward, plain_numbers, reduction_numbers, test_numbers, write_numbers};
 
+use graphs::Edge;
 use records::answers::{Answer, Verdict};
 use reduction::answers::{Reduction, Tested};
 
@@ -252,5 +255,22 @@ pub extern "C" fn subgroups_tidy_numbers(numbers: &[u8], tidied: &mut [u8], answ
     ensures means { (tidy_numbers_answer numbers.now tidied.old).verdict ≡ Done → TidiedNumbers numbers.now (take (numbers_slots numbers.now * 128) tidied.new) }
 {
     let told = numbers::tidy_numbers(numbers, tidied);
+    *answer = told.numbers();
+}
+
+// Trace: the verdict on a target by the folded graph of a system, which is laid and folded in the table of edges.
+#[unsafe(no_mangle)]
+pub extern "C" fn subgroups_trace(
+    system: &[u8],
+    target: &[u8],
+    table: &mut [Edge],
+    answer: &mut [u64; 7],
+)
+    ensures answer { answer.new ≡ plain_numbers (trace_answer system.now target.now (length table.old)) }
+    ensures table { KeptWhenRefused (trace_answer system.now target.now (length table.old)) table.old table.new }
+    ensures means { TraceMeans system.now target.now (length table.old) (trace_answer system.now target.now (length table.old)) }
+    ensures agrees { AgreesWithMember system.now target.now (length table.old) (trace_answer system.now target.now (length table.old)) }
+{
+    let told = tracing::trace(system, target, table);
     *answer = told.numbers();
 }

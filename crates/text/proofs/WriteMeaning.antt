@@ -19,7 +19,7 @@ use Rattle.records.specs.Refusals.{as_six, must, record_rules, refusal, target_r
 use Rattle.records.specs.declared.answers.Verdict.TheVariants.{Done}
 use Rattle.records.proofs.ByNumber.{Never, fine_never, must-given, must_never, never_then, other_never, then_first, then_next}
 use Rattle.records.proofs.Chains.{fine_first, fine_next, verdict_done}
-use Rattle.records.proofs.RoundTrip.{AllLetters, record_letters, word-short}
+use Rattle.records.proofs.RoundTrip.{AllLetters, target_letters, word-short}
 use Rattle.slots.specs.Refusals.{word_room}
 use Rattle.slots.proofs.Systems.{room_enough, room_fits}
 use Rattle.syntax.specs.TreeWords.{tree_word}
@@ -46,10 +46,6 @@ unfolding text_of
 text_runs w = refl
 
 -- refusal 6 is given for a record that is refused
-six_fine : (c : Checked) → as_six c ≡ Ok tt → c ≡ Ok tt
-six_fine (Ok _) e = refl
-six_fine (Err f) e = absurd (fine_never TargetOrProductMalformed f.place (sym e))
-
 six_never : (n : Reason) → (6 ≡ number_of n → ⊥) → (c : Checked) → Never n (as_six c)
 six_never n h (Ok _) = fine_never n
 six_never n h (Err f) = other_never n TargetOrProductMalformed f.place h
@@ -90,10 +86,7 @@ module _ (word text : List ℕ) where
 
   module _ (done : tests ≡ Ok tt) where
     letters : AllLetters (word_of word)
-    unfolding target_rules
-    letters =
-        record_letters word 0
-        (six_fine (record_rules word 0) (fine_next (must (eqb (length word) 64) TargetOrProductMalformed 0) (as_six (record_rules word 0)) (write_done.0 done).0))
+    letters = target_letters word (write_done.0 done).0
 
     told : TextFor (word_of word)
     told = text_for (word_of word) letters (word-short word)
