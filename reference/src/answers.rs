@@ -5,9 +5,9 @@ use crate::refusals::Refusal;
 
 /// The verdict of a call that did what it was asked.
 pub const DONE: u64 = 0;
-/// The verdict of ask and of member for a target that lies in the subgroup.
+/// The verdict of ask, of member and of trace for a target that lies in the subgroup.
 pub const MEMBER: u64 = 1;
-/// The verdict of ask and of member for a target that does not.
+/// The verdict of ask, of member and of trace for a target that does not.
 pub const NOT_A_MEMBER: u64 = 2;
 /// The verdict of a call that was turned down.
 pub const REFUSED: u64 = 3;

@@ -103,18 +103,22 @@ impl Graph {
         }
     }
 
+    /// The base point, or the point that it has been folded into.
+    pub fn base(&self) -> u16 {
+        self.find(BASE)
+    }
+
+    /// The point to which the edge with this letter leads from a point, if there is one.
+    pub fn next(&self, point: u16, letter: u8) -> Option<u16> {
+        let to = self.edges[usize::from(point)][number(letter)];
+        (to != NONE).then(|| self.find(to))
+    }
+
     /// Whether the letters trace a path from the base point back to it.
     pub fn traces_loop(&self, letters: &[u8]) -> bool {
-        let base = self.find(BASE);
-        let mut point = base;
-        for &letter in letters {
-            let next = self.edges[usize::from(point)][number(letter)];
-            if next == NONE {
-                return false;
-            }
-            point = self.find(next);
-        }
-        point == base
+        let mut path = letters.iter();
+        let end = path.try_fold(self.base(), |point, &letter| self.next(point, letter));
+        end == Some(self.base())
     }
 
     /// The rank of the subgroup: edges less points, plus 1.

@@ -2,7 +2,7 @@
 //! A plain Rust version, written from the requirements alone (docs/REQUIREMENTS.md), to compare the
 //! proved library with. All that judges is the plain reading of them; quick_search.rs and
 //! quick_text.rs serve timing. The calls are tidy, reduce, test, ask, member, replay, multiply, show,
-//! read_text, write_text, to_numbers, from_numbers and tidy_numbers.
+//! read_text, write_text, to_numbers, from_numbers, tidy_numbers and trace.
 
 pub mod answers;
 pub mod asking;
@@ -37,6 +37,7 @@ pub mod text_sheets;
 pub mod tidy;
 pub mod tidy_numbers;
 pub mod to_numbers;
+pub mod tracing;
 pub mod words;
 pub mod write_text;
 
@@ -64,4 +65,5 @@ pub use show::show;
 pub use tidy::tidy;
 pub use tidy_numbers::tidy_numbers;
 pub use to_numbers::to_numbers;
+pub use tracing::{trace, Edge};
 pub use write_text::write_text;

@@ -4,7 +4,10 @@
 use crate::answers::{Answer, DONE, MEMBER, NOT_A_MEMBER};
 use crate::records::{record, system};
 use crate::refusals::*;
-use crate::{ask, member, multiply, reduce, replay, show, test, tidy, to_numbers, Direction};
+use crate::tracing::MOST_EDGES;
+use crate::{
+    ask, member, multiply, reduce, replay, show, test, tidy, to_numbers, trace, Direction, Edge,
+};
 
 const FILL: u8 = 0xEE;
 
@@ -14,8 +17,9 @@ fn refused(number: u64, place: usize) -> Answer {
 }
 
 /// The answers of every call to this system, with a target, a product and a log that are too short,
-/// and with little room, of which the last 8 bytes are a log of 5 and a product buffer of 3.
-fn answers_of_every_call(given: &[u8], words: &mut [u8; 64], rest: &mut [u8; 8]) -> [Answer; 9] {
+/// and with little room, of which the last 8 bytes are a log of 5 and a product buffer of 3, and with
+/// no edges.
+fn answers_of_every_call(given: &[u8], words: &mut [u8; 64], rest: &mut [u8; 8]) -> [Answer; 10] {
     let (log, product) = rest.split_at_mut(5);
     let replayed = Direction::BOTH.map(|direction| replay(given, b"a1", direction, words));
     [
@@ -28,6 +32,7 @@ fn answers_of_every_call(given: &[u8], words: &mut [u8; 64], rest: &mut [u8; 8])
         replayed[1],
         multiply(given, b"bad", words),
         to_numbers(given, words),
+        trace(given, b"bad", &mut []),
     ]
 }
 
@@ -35,7 +40,7 @@ fn answers_of_every_call(given: &[u8], words: &mut [u8; 64], rest: &mut [u8; 8])
 fn every_call_refuses(given: &[u8], number: u64, place: usize) {
     let (mut words, mut rest) = ([FILL; 64], [FILL; 8]);
     let answers = answers_of_every_call(given, &mut words, &mut rest);
-    assert_eq!(answers, [refused(number, place); 9], "{}", given.len());
+    assert_eq!(answers, [refused(number, place); 10], "{}", given.len());
     assert_eq!((words, rest), ([FILL; 64], [FILL; 8]));
 }
 
@@ -109,6 +114,8 @@ fn telling_lengths() {
     let answer = member(given, &record("ab"), &mut words, &mut log, &mut product);
     assert_eq!(answer.numbers(), [MEMBER, 0, 0, 15, 1, 0, 0]);
     assert_eq!(ask(&words, &record("ab"), &mut product).verdict, MEMBER);
+    let mut table = [Edge::default(); MOST_EDGES];
+    assert_eq!(trace(given, &record("ab"), &mut table).verdict, MEMBER);
 }
 
 /// The number by the system's length in the former order: uneven, then more than 16 records.
@@ -175,7 +182,7 @@ fn malformed_records() {
     every_call_refuses(&given, NO_LINE_FEED, 127);
 }
 
-/// Refusal 6 of target and product, before 9, 10, 11 and 15.
+/// Refusal 6 of target and product, before 9, 10, 11, 15 and 21.
 #[test]
 fn malformed_targets() {
     let given = system(&["ab", "b"]);
@@ -195,6 +202,7 @@ fn malformed_targets() {
             "{bytes:?}"
         );
         assert_eq!(multiply(&given, &bytes, &mut []), expected, "{bytes:?}");
+        assert_eq!(trace(&given, &bytes, &mut []), expected, "{bytes:?}");
         for given in [system(&["ab", "b"]), system(&["ab", "c"])] {
             assert_eq!(ask(&given, &bytes, &mut []), expected, "{bytes:?}");
         }
