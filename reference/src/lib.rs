@@ -4,6 +4,7 @@
 //! quick_text.rs serve timing. The calls are tidy, reduce, test, ask, member, replay, multiply, show,
 //! read_text, write_text, to_numbers, from_numbers, tidy_numbers and trace.
 
+pub mod actions;
 pub mod answers;
 pub mod asking;
 pub mod decision;
@@ -11,6 +12,7 @@ pub mod elements;
 pub mod factoring;
 pub mod from_numbers;
 pub mod graph;
+pub mod graph_sheets;
 pub mod measured;
 pub mod membership;
 pub mod moves;
@@ -21,6 +23,7 @@ pub mod program;
 pub mod quick_search;
 pub mod quick_text;
 pub mod random;
+pub mod random_graphs;
 pub mod random_numbers;
 pub mod random_text;
 pub mod read_text;
@@ -43,6 +46,8 @@ pub mod write_text;
 
 #[cfg(test)]
 mod consistency;
+#[cfg(test)]
+mod graph_tests;
 #[cfg(test)]
 mod independence_tests;
 #[cfg(test)]
