@@ -13,7 +13,7 @@ use subgroups_reference::reduction::reduction;
 use subgroups_reference::refusals::*;
 use subgroups_reference::sheets::{Target, ASK_SHEETS, SHEETS};
 use subgroups_reference::small;
-use subgroups_reference::words::{inverse_letter, inverse_letters, LONGEST};
+use subgroups_reference::words::{inverse_letter, LONGEST};
 
 /// The comparison of ask: the system and the target; the product buffer.
 type Ask = Comparison<2, 1>;
@@ -210,17 +210,6 @@ fn pairs_of_slots(calls: &mut Ask) {
     }
 }
 
-/// A word of this length that begins with these letters, followed by its slot's own, or the inverse.
-fn word_with(beginning: &[u8], slot: usize, length: usize, turned: bool) -> Vec<u8> {
-    let own = vec![b'a' + slot as u8; length - beginning.len()];
-    let word = [beginning, &own].concat();
-    if turned {
-        inverse_letters(&word)
-    } else {
-        word
-    }
-}
-
 /// Systems of 16 words of which one, in every slot, is wholly cancelled or not between two others, in
 /// every two other slots or both in one.
 fn triples_of_slots(calls: &mut Ask) {
@@ -243,11 +232,6 @@ fn triples_of_slots(calls: &mut Ask) {
             }
         }
     }
-}
-
-/// Puts other letters into one slot of a system.
-fn replace(system: &mut [u8], slot: usize, letters: &[u8]) {
-    system[RECORD * slot..RECORD * (slot + 1)].copy_from_slice(&record(letters));
 }
 
 /// Every power of a letter, beside blank slots, with every power of it as target.

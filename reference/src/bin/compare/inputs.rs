@@ -7,7 +7,7 @@ use subgroups_reference::records::{
 };
 use subgroups_reference::sheets::{ASK_SHEETS, SHEETS, TIDY};
 use subgroups_reference::small;
-use subgroups_reference::words::{Word, LONGEST};
+use subgroups_reference::words::{inverse_letters, Word, LONGEST};
 
 /// The numbers of generators over which random systems are made.
 pub const GENERATORS: [usize; 5] = [1, 2, 3, 5, 26];
@@ -87,6 +87,22 @@ pub fn for_each_changed_byte(
 pub fn letters_of_their_own(records: usize) -> Vec<u8> {
     let letters = (b'a'..=b'z').cycle().take(records);
     letters.flat_map(|letter| record([letter])).collect()
+}
+
+/// A word of this length that begins with these letters, followed by its slot's own, or the inverse.
+pub fn word_with(beginning: &[u8], slot: usize, length: usize, turned: bool) -> Vec<u8> {
+    let own = vec![b'a' + slot as u8; length - beginning.len()];
+    let word = [beginning, &own].concat();
+    if turned {
+        inverse_letters(&word)
+    } else {
+        word
+    }
+}
+
+/// Puts other letters into one slot of a system.
+pub fn replace(system: &mut [u8], slot: usize, letters: &[u8]) {
+    system[RECORD * slot..RECORD * (slot + 1)].copy_from_slice(&record(letters));
 }
 
 /// Systems from which those of every length are cut: two well-formed ones, of which the second is
