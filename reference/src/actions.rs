@@ -12,6 +12,11 @@ pub struct Action {
 }
 
 impl Action {
+    /// The number of generators.
+    pub fn generators(&self) -> usize {
+        self.images.len()
+    }
+
     /// The number of points.
     pub fn points(&self) -> usize {
         self.images[0].len()
@@ -43,7 +48,7 @@ impl Action {
         let mut longer = Vec::new();
         for (point, way) in ways.iter().enumerate() {
             let Some(way) = way else { continue };
-            for letter in letters(self.images.len()) {
+            for letter in letters(self.generators()) {
                 let to = self.next(point, letter);
                 if ways[to].is_none() {
                     longer.push((to, [&way[..], &[letter]].concat()));
@@ -75,7 +80,7 @@ impl Action {
         let ways: Vec<Vec<u8>> = self.ways(random).into_iter().flatten().collect();
         let mut words = Vec::new();
         for (point, way) in ways.iter().enumerate() {
-            for generator in (b'a'..).take(self.images.len()) {
+            for generator in (b'a'..).take(self.generators()) {
                 let back = inverse_letters(&ways[self.next(point, generator)]);
                 let row = [&way[..], &[generator], &back].concat();
                 words.push(Word::freely_reduced(&row));

@@ -305,8 +305,8 @@ fn system_to_fold(
     match random.below(6) {
         0 => random.system(Kind::Cancelling, generators, records, 0, longest),
         1 => random.system_of_common_beginnings(generators, records, 0, longest),
-        2 => random.system_of_conjugates(generators, records),
-        3 => random.system_of_powers_of_a_word(generators, records),
+        2 => random.system_of_conjugates(generators, records, LONGEST),
+        3 => random.system_of_powers_of_a_word(generators, records, LONGEST),
         4 => random.system_of_shared_halves(generators, records, longest / 2),
         _ => random.system_of_shared_beginnings(generators, records),
     }

@@ -3,7 +3,7 @@
 
 use crate::random::Random;
 use crate::records::{record, RECORD};
-use crate::words::{inverse_letters, LONGEST};
+use crate::words::inverse_letters;
 
 impl Random {
     /// A system of words with lengths from the shortest to the longest, each of which begins as one and
@@ -26,29 +26,41 @@ impl Random {
         system
     }
 
-    /// A system of words between a beginning of one and the same word and its inverse.
-    pub fn system_of_conjugates(&mut self, generators: usize, records: usize) -> Vec<u8> {
-        let longest = self.below(LONGEST / 2 + 1);
-        let stem = self.reduced_letters(generators, longest);
+    /// A system of words up to a length, at least 1, each of which stands between a beginning of one and
+    /// the same word and the inverse of that beginning.
+    pub fn system_of_conjugates(
+        &mut self,
+        generators: usize,
+        records: usize,
+        longest: usize,
+    ) -> Vec<u8> {
+        let longest_around = self.below(longest / 2 + 1);
+        let stem = self.reduced_letters(generators, longest_around);
         let mut system = Vec::with_capacity(RECORD * records);
         for _ in 0..records {
-            let around = &stem[..self.below(longest + 1)];
-            let room = LONGEST - 2 * around.len();
+            let around = &stem[..self.below(longest_around + 1)];
+            let room = longest - 2 * around.len();
             let length = self.below(room.min(12) + 1);
             let inside = self.reduced_letters(generators, length);
-            system.extend(record([around, &inside, &inverse_letters(around)].concat()));
+            let row = [around, &inside, &inverse_letters(around)].concat();
+            system.extend(record(row));
         }
         system
     }
 
-    /// A system of powers of one and the same word of a few letters, and of its inverse.
-    pub fn system_of_powers_of_a_word(&mut self, generators: usize, records: usize) -> Vec<u8> {
-        let length = self.between(1, 8);
+    /// A system of powers, up to a length, of one and the same word of a few letters and of its inverse.
+    pub fn system_of_powers_of_a_word(
+        &mut self,
+        generators: usize,
+        records: usize,
+        longest: usize,
+    ) -> Vec<u8> {
+        let length = self.between(1, longest.min(8));
         let root = self.reduced_letters(generators, length);
         let inverse = inverse_letters(&root);
         let mut system = Vec::with_capacity(RECORD * records);
         for _ in 0..records {
-            let exponent = self.below(LONGEST / length + 1);
+            let exponent = self.below(longest / length + 1);
             let root = if self.below(2) == 0 { &root } else { &inverse };
             system.extend(record(root.repeat(exponent)));
         }
@@ -61,6 +73,7 @@ mod tests {
     use super::*;
     use crate::graph::Graph;
     use crate::records::freely_reduced;
+    use crate::words::LONGEST;
 
     /// Systems have as many records as are asked for, and those of powers a graph of rank 1 at most.
     #[test]
@@ -70,8 +83,8 @@ mod tests {
             let (generators, records) = ([1, 2, 3, 26][round % 4], random.below(17));
             let systems = [
                 random.system_of_common_beginnings(generators, records, 5, 63),
-                random.system_of_conjugates(generators, records),
-                random.system_of_powers_of_a_word(generators, records),
+                random.system_of_conjugates(generators, records, LONGEST),
+                random.system_of_powers_of_a_word(generators, records, LONGEST),
             ];
             let words = systems.map(|system| freely_reduced(&system));
             assert!(words.iter().all(|system| system.count() == records));

@@ -4,7 +4,7 @@
 use crate::by_length::Form;
 use crate::entries::Entry;
 use crate::inputs::{for_each_length, rooms, EVERY_LENGTH, LONG_LENGTHS};
-use crate::lent::{LentAnswer, Pair};
+use crate::lent::{Contents, LentAnswer, Pair};
 use crate::numbers::for_each_length_of_numbers;
 use std::array::from_fn;
 use std::collections::BTreeSet;
@@ -20,7 +20,7 @@ const VERDICTS: [&str; 3] = ["done", "member", "not a member"];
 pub struct Seen {
     pub calls: u64,
     verdicts: [u64; 3],
-    refusals: [u64; 21],
+    refusals: [u64; 22],
     /// How many systems were reduced.
     pub reduced: u64,
     pub most_moves: u64,
@@ -51,6 +51,9 @@ pub struct Comparison<const INPUTS: usize, const BUFFERS: usize> {
     system: Option<Form>,
     inputs: [Pair; INPUTS],
     buffers: [Pair; BUFFERS],
+    /// What the buffers hold before a call, if they are working space, of which nothing is promised but
+    /// that a refusal leaves it as it was.
+    contents: Option<Contents>,
     proved: LentAnswer,
     rust: Answer,
     /// The check of calls that were not refused.
@@ -74,6 +77,7 @@ impl<const INPUTS: usize, const BUFFERS: usize> Comparison<INPUTS, BUFFERS> {
             system: Some(Form::Letters),
             inputs: inputs.map(Pair::new),
             buffers: buffers.map(Pair::new),
+            contents: None,
             proved: LentAnswer::new(),
             rust: Answer::default(),
             another_check: None,
@@ -108,6 +112,20 @@ impl<const INPUTS: usize, const BUFFERS: usize> Comparison<INPUTS, BUFFERS> {
         }
     }
 
+    /// The comparison of an entry whose buffers are working space with these contents before a call.
+    pub fn with_working_space(
+        name: &'static str,
+        entry: Entry<INPUTS, BUFFERS>,
+        inputs: [&'static str; INPUTS],
+        buffers: [&'static str; BUFFERS],
+        contents: Contents,
+    ) -> Self {
+        Comparison {
+            contents: Some(contents),
+            ..Comparison::new(name, entry, inputs, buffers)
+        }
+    }
+
     /// Makes one call on both sides, with buffers of these lengths, and ends the program if they disagree.
     pub fn call(&mut self, inputs: [&[u8]; INPUTS], lengths: [usize; BUFFERS]) {
         self.call_lending(from_fn(|number| number), inputs, lengths);
@@ -129,9 +147,7 @@ impl<const INPUTS: usize, const BUFFERS: usize> Comparison<INPUTS, BUFFERS> {
         for (pair, input) in self.inputs.iter_mut().zip(inputs) {
             pair.copy(input);
         }
-        for (pair, length) in self.buffers.iter_mut().zip(lengths) {
-            pair.fill(length);
-        }
+        self.fill_buffers(lengths);
         self.proved = LentAnswer::new();
         (self.entry.proved)(
             lent.map(|number| self.inputs[number].proved.part()),
@@ -143,6 +159,20 @@ impl<const INPUTS: usize, const BUFFERS: usize> Comparison<INPUTS, BUFFERS> {
             self.buffers.each_mut().map(|pair| pair.rust.part_mut()),
         );
         self.check();
+    }
+
+    /// Fills the buffers with the pattern, or with other contents where they are working space, and sets
+    /// the lengths of their lent parts.
+    fn fill_buffers(&mut self, lengths: [usize; BUFFERS]) {
+        if let Some(contents) = &mut self.contents {
+            contents.move_on(lengths.into_iter().max().unwrap_or(0));
+        }
+        for (pair, length) in self.buffers.iter_mut().zip(lengths) {
+            match &self.contents {
+                Some(contents) => pair.copy(contents.cut(length)),
+                None => pair.fill(length),
+            }
+        }
     }
 
     /// Makes calls with every mixture of buffer lengths around those needed.
@@ -215,12 +245,35 @@ impl<const INPUTS: usize, const BUFFERS: usize> Comparison<INPUTS, BUFFERS> {
         Some((form, self.inputs[0].rust.part().len()))
     }
 
+    /// The first byte of each input and buffer in which the two sides differ, counted from the lent part's
+    /// start; after an answer that is no refusal only what stands beside working space counts.
+    fn differences(&self) -> impl Iterator<Item = (&'static str, (isize, u8, u8))> + '_ {
+        let is_free = self.contents.is_some() && self.rust.verdict != REFUSED;
+        let inputs = self.inputs.iter().map(|pair| (pair, pair.difference()));
+        let buffers = self.buffers.iter().map(move |pair| match is_free {
+            true => (pair, pair.difference_beside()),
+            false => (pair, pair.difference()),
+        });
+        let pairs = inputs.chain(buffers);
+        pairs.filter_map(|(pair, difference)| Some((pair.name, difference?)))
+    }
+
+    /// Whether working space is as it was before the last call.
+    fn working_space_is_as_it_was(&self) -> bool {
+        self.contents.as_ref().is_none_or(|contents| {
+            let mut left = self.buffers.iter().map(|pair| pair.rust.part());
+            left.all(|left| left == contents.cut(left.len()))
+        })
+    }
+
     /// Counts the last call if both sides agree, and ends the program if they do not.
     fn check(&mut self) {
-        let mut pairs = self.inputs.iter().chain(&self.buffers);
-        let same_bytes = pairs.all(|pair| pair.difference().is_none());
+        let same_bytes = self.differences().next().is_none();
         if !same_bytes || !self.proved.holds_just(self.rust) {
             self.end_with("the two sides disagree");
+        }
+        if self.rust.verdict == REFUSED && !self.working_space_is_as_it_was() {
+            self.end_with("a refusal has changed the working space");
         }
         if let Some((form, length)) = self.form_and_length() {
             if let Err(fault) = form.check_by_length(length, self.rust) {
@@ -300,11 +353,8 @@ impl<const INPUTS: usize, const BUFFERS: usize> Comparison<INPUTS, BUFFERS> {
         if !self.proved.alone_written() {
             println!("the proved library wrote beside its answer");
         }
-        for pair in self.inputs.iter().chain(&self.buffers) {
-            if let Some((place, one, two)) = pair.difference() {
-                let name = pair.name;
-                println!("{name}: byte {place} is {one:#04x} from the proved library, {two:#04x} from the Rust version");
-            }
+        for (name, (place, one, two)) in self.differences() {
+            println!("{name}: byte {place} is {one:#04x} from the proved library, {two:#04x} from the Rust version");
         }
         println!("{} calls agreed before", self.seen.calls);
         exit(1);

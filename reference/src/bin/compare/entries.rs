@@ -1,8 +1,9 @@
 //! The entries of the proved static library, as C sees them, each beside the same call of the Rust
 //! version: inputs and buffers as arrays of slices, and the answer as seven numbers.
 
+use std::slice::from_raw_parts_mut;
 use subgroups_reference as reference;
-use subgroups_reference::{Answer, Direction};
+use subgroups_reference::{Answer, Direction, Edge};
 
 /// The answer's seven numbers, as the library writes them.
 pub type Numbers = [u64; 7];
@@ -101,6 +102,15 @@ extern "C" {
         numbers_len: usize,
         tidied: *mut u8,
         tidied_len: usize,
+        answer: *mut Numbers,
+    );
+    fn subgroups_trace(
+        system: *const u8,
+        system_len: usize,
+        target: *const u8,
+        target_len: usize,
+        table: *mut Edge,
+        edges: usize,
         answer: *mut Numbers,
     );
 }
@@ -315,4 +325,32 @@ pub const TIDY_NUMBERS: Entry<1, 1> = Entry {
         );
     },
     rust: |[numbers], [tidied]| reference::tidy_numbers(numbers, tidied),
+};
+
+/// How many bytes are lent for an edge of a table.
+pub const EDGE: usize = size_of::<Edge>();
+
+/// The edges that these bytes are lent for.
+fn edges(table: &mut [u8]) -> &mut [Edge] {
+    let first = table.as_mut_ptr().cast::<Edge>();
+    assert!(first.is_aligned() && table.len().is_multiple_of(EDGE));
+    // An edge is three numbers without gaps, so any bytes are edges.
+    unsafe { from_raw_parts_mut(first, table.len() / EDGE) }
+}
+
+/// Trace: the system and the target; the bytes of the table.
+pub const TRACE: Entry<2, 1> = Entry {
+    proved: |[system, target], [table], answer| unsafe {
+        let table = edges(table);
+        subgroups_trace(
+            system.as_ptr(),
+            system.len(),
+            target.as_ptr(),
+            target.len(),
+            table.as_mut_ptr(),
+            table.len(),
+            answer,
+        );
+    },
+    rust: |[system, target], [table]| reference::trace(system, target, edges(table)),
 };

@@ -2,6 +2,8 @@
 //! of bytes that no call writes, so that every byte written or left alone is seen.
 
 use crate::entries::Numbers;
+use std::ops::Range;
+use subgroups_reference::random::Random;
 use subgroups_reference::Answer;
 
 /// The length of the margin on either side of the lent part.
@@ -34,17 +36,31 @@ impl Lent {
 
     /// Fills the buffer with the pattern and sets the length of the lent part.
     fn fill(&mut self, length: usize) {
+        self.set_length(length);
+        self.put_pattern(0..length + 2 * MARGIN);
+    }
+
+    /// Fills the margins with the pattern and copies these bytes into the lent part.
+    fn copy(&mut self, bytes: &[u8]) {
+        self.set_length(bytes.len());
+        let behind = MARGIN + bytes.len();
+        self.put_pattern(0..MARGIN);
+        self.put_pattern(behind..behind + MARGIN);
+        self.part_mut().copy_from_slice(bytes);
+    }
+
+    /// Sets the length of the lent part.
+    fn set_length(&mut self, length: usize) {
         self.bytes.resize(length + 2 * MARGIN, 0);
-        for (place, byte) in self.bytes.iter_mut().enumerate() {
-            *byte = pattern(place);
-        }
         self.length = length;
     }
 
-    /// Fills the buffer with the pattern and copies these bytes into its lent part.
-    fn copy(&mut self, bytes: &[u8]) {
-        self.fill(bytes.len());
-        self.part_mut().copy_from_slice(bytes);
+    /// Puts the pattern at these places.
+    fn put_pattern(&mut self, places: Range<usize>) {
+        let first = places.start;
+        for (number, byte) in self.bytes[places].iter_mut().enumerate() {
+            *byte = pattern(first + number);
+        }
     }
 
     /// The lent part, to be written.
@@ -95,13 +111,58 @@ impl Pair {
 
     /// The first byte in which the two differ, counted from the lent part's start.
     pub fn difference(&self) -> Option<(isize, u8, u8)> {
+        self.difference_within(0..self.rust.bytes.len())
+    }
+
+    /// The first byte beside the lent parts in which the two differ, counted from the lent part's start.
+    pub fn difference_beside(&self) -> Option<(isize, u8, u8)> {
+        let behind = MARGIN + self.rust.length;
+        let before = self.difference_within(0..MARGIN);
+        before.or_else(|| self.difference_within(behind..behind + MARGIN))
+    }
+
+    /// The first of these bytes in which the two differ, counted from the lent part's start.
+    fn difference_within(&self, mut places: Range<usize>) -> Option<(isize, u8, u8)> {
         let (one, two) = (&self.proved.bytes, &self.rust.bytes);
-        if one == two {
+        if one[places.clone()] == two[places.clone()] {
             return None;
         }
-        let place = one.iter().zip(two).position(|(one, two)| one != two)?;
+        let place = places.find(|&place| one[place] != two[place])?;
         let counted = place as isize - MARGIN as isize;
         Some((counted, one[place], two[place]))
+    }
+}
+
+/// What buffers hold before a call that are working space: bytes that are cut anew for each call from
+/// those given, at a random place.
+pub struct Contents {
+    bytes: Vec<u8>,
+    /// The number of bytes of which the place is a multiple.
+    step: usize,
+    place: usize,
+    random: Random,
+}
+
+impl Contents {
+    /// The contents that are cut from these bytes, at places by steps of this many.
+    pub fn new(bytes: Vec<u8>, step: usize, random: Random) -> Contents {
+        Contents {
+            bytes,
+            step,
+            place: 0,
+            random,
+        }
+    }
+
+    /// Goes on to another place for a call to which buffers of at most this length are lent.
+    pub fn move_on(&mut self, longest: usize) {
+        let places = (self.bytes.len() - longest) / self.step + 1;
+        self.place = self.step * self.random.below(places);
+    }
+
+    /// The contents of a buffer of this length.
+    pub fn cut(&self, length: usize) -> &[u8] {
+        &self.bytes[self.place..self.place + length]
     }
 }
 

@@ -21,12 +21,13 @@ mod texts;
 mod tidy;
 mod tidy_numbers;
 mod to_numbers;
+mod trace;
 mod write_text;
 
 use std::thread;
 
 /// The comparison of each entry, which gives the number of its calls.
-const COMPARISONS: [fn() -> u64; 12] = [
+const COMPARISONS: [fn() -> u64; 13] = [
     tidy::compare,
     replay::compare,
     multiply::compare,
@@ -39,6 +40,7 @@ const COMPARISONS: [fn() -> u64; 12] = [
     to_numbers::compare,
     from_numbers::compare,
     tidy_numbers::compare,
+    trace::compare,
 ];
 
 /// Compares the entries side by side, each in a thread of its own, and says how many calls agreed.
