@@ -15,6 +15,7 @@ mod test;
 mod text;
 mod tidy;
 mod timing;
+mod trace;
 
 /// Times one entry after another.
 fn main() {
@@ -28,4 +29,5 @@ fn main() {
     ask::bench();
     text::bench();
     numbers::bench();
+    trace::bench();
 }
