@@ -120,7 +120,7 @@ module _ (edges : List Edge) (points leads : List ℕ) (f : Folding edges points
       pub vacant_kept : Folding edges points leads'
       vacant_kept =
           record {
-            fits = record { few = f.fits.few; room = length-set leads at (suc (point points s.to)) ∙ f.fits.room; low = f.fits.low; filed_low = vacant_low };
+            fits = record { few = f.fits.few; room = omega (arith, length-set leads at (suc (point points s.to)), f.fits.room); low = f.fits.low; filed_low = vacant_low };
             among = f.among;
             folds = f.folds;
             base = f.base;
@@ -207,7 +207,7 @@ module _ (edges : List Edge) (points leads : List ℕ) (f : Folding edges points
       joined_kept =
           let same : length points' ≡ length points = length-map points (joined r q) in
           record {
-            fits = record { few = omega (arith, same, f.fits.few); room = f.fits.room; low = joined_low; filed_low = λ i. omega (arith, same, f.fits.filed_low i) };
+            fits = record { few = omega (arith, same, f.fits.few); room = omega (arith, same, f.fits.room); low = joined_low; filed_low = λ i. omega (arith, same, f.fits.filed_low i) };
             among = rw (same) f.among;
             folds = folds_then bytes byte_laws f.folds (more fold (no_fold refl));
             base = point_joined r q points 0 ∙ ap (joined r q) f.base ∙ joined_base r q;

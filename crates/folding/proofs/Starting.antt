@@ -1,13 +1,12 @@
 -- Before the first fold: each point is itself, and no step is filed; and what an answer at the end says of the system.
-use Prim.Native.Nat.{ℕ, suc, ◌+◌, ◌-◌, ◌≤◌, ◌<◌}
+use Prim.Native.Nat.{ℕ, suc, ◌+◌, ◌-◌, ◌*◌, ◌≤◌, ◌<◌}
 use mathlib.Core.Path.{◌≡◌, refl, sym, ap, ◌∙◌}
 use mathlib.Core.Bool.{Bool, true}
 use mathlib.Core.List.{List, [], ◌∷◌, map}
 use native.Mathlib.Decide.{dec_lt}
 use native.Mathlib.Omega.{arith}
-use lib.ListN.{get_or, get_or-eq_default, length, replicate}
+use lib.ListN.{get_or, get_or-eq_default, length}
 use Rattle.std.specs.Prelude.{All, None}
-use Rattle.std.proofs.lemmas.List.{get_or-replicate, length-replicate}
 use Rattle.std.proofs.lemmas.List.Elements.{All-append, All-cons, All-head, All-nil, All-tail}
 use Rattle.std.proofs.lemmas.Option.{none-some}
 use Rattle.words.specs.Alphabet.{bytes}
@@ -46,16 +45,7 @@ module _ (edges : List Edge) (points leads : List ℕ) (among : All (EdgeAmong (
     | no n ↦ (let e : point points p ≡ 0 = get_or-eq_default points 0 (omega arith) in rw (e) own_base)
   ]
 
-  module _ (empty : leads ≡ replicate 57594 0) where
-    room : length leads ≡ 57594
-    room = rw (empty) (length-replicate {A = ℕ} 57594 0)
-
-    nothing : (i : ℕ) → get_or leads i 0 ≡ 0
-    nothing i = rw (empty) (elim (dec_lt i 57594) [
-      | yes h ↦ get_or-replicate 57594 i 0 0 h
-      | no n ↦ (let l : length (replicate {A = ℕ} 57594 0) ≤ i = omega (arith, length-replicate {A = ℕ} 57594 0) in get_or-eq_default (replicate 57594 0) 0 l)
-    ])
-
+  module _ (room : length points * 58 ≤ length leads) (nothing : (i : ℕ) → get_or leads i 0 ≡ 0) where
     nowhere : (p x : ℕ) → lead points leads p x ≡ None
     unfolding lead
     nowhere p x = ap (filed_point points) (nothing (place p x))

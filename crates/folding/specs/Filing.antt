@@ -1,6 +1,6 @@
 -- Folding on two lists of numbers: the point that each point of the loops has become, and where points lead by letters, as far as it has been
 -- filed.
-use Rattle.std.specs.Prelude.{ℕ, zero, suc, ◌+◌, ◌-◌, ◌*◌, ◌<◌, ◌≤◌, ◌≡◌, Bool, false, cond, not, List, [], ◌∷◌, None, Option, Some, eqb, get_or, length, map, set}
+use Rattle.std.specs.Prelude.{ℕ, zero, suc, ◌+◌, ◌-◌, ◌*◌, ◌<◌, ◌≤◌, Bool, false, cond, not, List, [], ◌∷◌, None, Option, Some, eqb, get_or, length, map, set}
 use Rattle.graphs.specs.Graphs.{joined}
 use Rattle.graphs.specs.declared.Edge.{Edge}
 
@@ -60,9 +60,9 @@ module _ (points leads : List ℕ) (step : Edge) where
   unfoldable pub leads_after : List ℕ
   leads_after = filed_leads lead_of_step (point points step.to) (place (point points step.from) step.letter) leads
 
--- at most 993 points, each has become one of them, and each that is filed is one of them
+-- at most 993 points, each has become one of them, each has its row, and each that is filed is one of them
 pub record Fits (points leads : List ℕ) : Type 0 where
   pub few : length points ≤ 993
-  pub room : length leads ≡ 57594
+  pub room : length points * 58 ≤ length leads
   pub low : (p : ℕ) → p < length points → point points p < length points
   pub filed_low : (i : ℕ) → get_or leads i 0 ≤ length points

@@ -11,8 +11,7 @@ const ROW: usize = 58;
 // The place of a point and a letter.
 fn place(point: u16, letter: u16) -> usize
     requires { (point < 993) × (65 ≤ letter) × (letter < 123) }
-    ensures place { result ≡ place point letter }
-    ensures inside { result < 57594 }
+    ensures { result ≡ place point letter }
 {
     point as usize * ROW + letter as usize - 65
 }

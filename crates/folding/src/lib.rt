@@ -5,7 +5,7 @@ mod filing;
 mod folds;
 mod loops;
 
-ghost use Rattle.std.specs.Prelude.{◌<◌, ◌≤◌, ◌≡◌, ℕ, All, get_or, length, replicate};
+ghost use Rattle.std.specs.Prelude.{◌<◌, ◌≤◌, ◌≡◌, ◌*◌, ℕ, All, get_or, length};
 ghost use Rattle.words.specs.Alphabet.{bytes};
 ghost use Rattle.words.specs.Words.{freely_reduce};
 ghost use Rattle.graphs.specs.Folding.{member_by_graph};
@@ -19,11 +19,15 @@ use graphs::Edge;
 use loops::lay;
 use slots::system::System;
 
-// The most points that the loops of a system have: the base, and 62 for each of 16 words.
+// The most points that the loops of a system have, the base and 62 for each of 16 words, and their places.
 const POINTS: usize = 993;
 
-// A place for each of them and each byte from A to z.
-const LEADS: usize = 57594;
+const PLACES: usize = 57594;
+
+// Most systems have few points; then fewer places have to be cleared.
+const FEW_POINTS: usize = 256;
+
+const FEW_PLACES: usize = 14848;
 
 // Whether the letters of a freely reduced word lead from the base back to the base in the folded graph of a system.
 pub fn traces_back(system: &System, word: &[u8], edges: &mut [Edge]) -> bool
@@ -35,14 +39,33 @@ pub fn traces_back(system: &System, word: &[u8], edges: &mut [Edge]) -> bool
 {
     let (laid, count) = lay(system, edges);
     let mut points = [0; POINTS];
-    let mut leads = [0; LEADS];
-    fold_and_trace(word, &edges[..laid], &mut points[..count], &mut leads)
+    let edges = &edges[..laid];
+    let points = &mut points[..count];
+    if count <= FEW_POINTS {
+        trace_with::<FEW_PLACES>(word, edges, points)
+    } else {
+        trace_with::<PLACES>(word, edges, points)
+    }
 }
 
-// The same for edges that are laid already, in room for as many points as they have.
+// The same for edges that are laid already, with so many places.
+fn trace_with<const PLACES: usize>(word: &[u8], edges: &[Edge], points: &mut [u16]) -> bool
+    requires points { (0 < length points.old) × (length points.old ≤ 993) }
+    requires room { (length points.old * 58 ≤ PLACES) × (PLACES ≤ 57594) }
+    requires edges { All (EdgeAmong (length points.old)) edges.now }
+    requires letters { OfLetters word.now }
+    requires freely { freely_reduce bytes word.now ≡ word.now }
+    ensures { TracedIn edges.now word.now result }
+{
+    let mut leads = [0; PLACES];
+    fold_and_trace(word, edges, points, &mut leads)
+}
+
+// The same with places at which nothing is filed.
 fn fold_and_trace(word: &[u8], edges: &[Edge], points: &mut [u16], leads: &mut [u16]) -> bool
     requires points { (0 < length points.old) × (length points.old ≤ 993) }
-    requires empty { leads.old ≡ replicate 57594 0 }
+    requires room { length points.old * 58 ≤ length leads.old }
+    requires empty { (i : ℕ) → get_or leads.old i 0 ≡ 0 }
     requires edges { All (EdgeAmong (length points.old)) edges.now }
     requires letters { OfLetters word.now }
     requires freely { freely_reduce bytes word.now ≡ word.now }

@@ -16,10 +16,11 @@ use Rattle.text.specs.Read.{read_answer, read_buffer}
 use Rattle.text.specs.Write.{write_answer, write_buffer}
 use Rattle.numbers.specs.Calls.{from_numbers_answer, from_numbers_buffer, tidy_numbers_answer, tidy_numbers_buffer, to_numbers_answer, to_numbers_buffer}
 use Rattle.numbers.specs.Records.{numbers_bytes_of, numbers_record}
+use Rattle.tracing.specs.Tracing.{trace_answer}
 use Rattle.output.specs.Output.{program_output}
 use Rattle.lines.specs.Text.{bytes_in}
 use Rattle.records.specs.declared.refusals.Reason.{Reason}
-use Rattle.records.specs.declared.refusals.Reason.TheVariants.{ExponentOutOfRange, NestingTooDeep, NumberWithoutLetter, NumbersMalformed, ProductBufferShort, SystemNotReduced, SystemTooLong, SystemUneven, TextMalformed, WordTooLong, WordsBufferShort}
+use Rattle.records.specs.declared.refusals.Reason.TheVariants.{EdgeTableShort, ExponentOutOfRange, NestingTooDeep, NumberWithoutLetter, NumbersMalformed, ProductBufferShort, SystemNotReduced, SystemTooLong, SystemUneven, TargetOrProductMalformed, TextMalformed, WordTooLong, WordsBufferShort}
 
 -- the record of a word that is given as text, and the system of several
 abbrev pub record_in : String → List ℕ
@@ -80,6 +81,8 @@ pub data Sheet : Type 0 where
   tidies_numbers : String → List (List ℕ) → ℕ → Verdict → List ℕ → Sheet
   -- a length in bytes, and the reason of the refusal that tidy_numbers gives to every system of numbers of that length
   refuses_numbers : String → ℕ → Reason → Sheet
+  -- words, a target, the number of edges lent, and the verdict of trace
+  traces : String → List String → String → ℕ → Verdict → Sheet
   -- words on the program's standard input, the last one the target, and the lines that it prints
   prints : String → List String → List String → Sheet
   -- a length of the program's input, and the line that it prints for every input of that length
@@ -148,6 +151,7 @@ Says (tidies_numbers label numbers room verdict buffer) =
 Says (refuses_numbers label n why) =
     (numbers buffer : List ℕ) → length numbers ≡ n
     → (tidy_numbers_answer numbers buffer ≡ record { verdict = refused why }) × (tidy_numbers_buffer numbers buffer ≡ buffer)
+Says (traces label words target edges verdict) = trace_answer (system_in words) (record_in target) edges ≡ record { verdict = verdict }
 Says (prints label given lines) = program_output (system_in given) ≡ lines_in lines
 Says (prints_for label n line) = (input : List ℕ) → length input ≡ n → program_output input ≡ lines_in (line ∷ [])
 
@@ -233,6 +237,17 @@ sheets =
     ∷ tidies_numbers "N11" ((1000 ∷ []) ∷ []) 127 (refused WordsBufferShort) (lent 127)
     ∷ refuses_numbers "N12" 64 SystemUneven
     ∷ refuses_numbers "N13" 2049 SystemTooLong
+    ∷ traces "G1" ("ab" ∷ "ac" ∷ "Bd" ∷ []) "Cd" 1008 Member
+    ∷ traces "G2" ("ab" ∷ "ac" ∷ "Bd" ∷ []) "d" 1008 NotMember
+    ∷ traces "G3" ("aa" ∷ "aaa" ∷ []) "a" 1008 Member
+    ∷ traces "G4" ("ab" ∷ "cb" ∷ []) "aC" 1008 Member
+    ∷ traces "G5" ("ab" ∷ "cb" ∷ []) "Ac" 1008 NotMember
+    ∷ traces "G6" ("aa" ∷ "b" ∷ "abA" ∷ []) "aBBa" 1008 Member
+    ∷ traces "G7" ("aa" ∷ "b" ∷ "abA" ∷ []) "ab" 1008 NotMember
+    ∷ traces "G8" ("aA" ∷ "b" ∷ []) "aAb" 1008 Member
+    ∷ traces "G9" [] "" 1008 Member
+    ∷ traces "G10" ("a" ∷ []) "a" 1007 (refused EdgeTableShort)
+    ∷ traces "G11" ("a" ∷ []) "a7" 1007 (refused_with TargetOrProductMalformed 1)
     ∷ prints "P3" ("ab" ∷ "b" ∷ "a" ∷ [])
     ("moves 1 rank 2 independent yes member yes"
     ∷ "a.............................................................."

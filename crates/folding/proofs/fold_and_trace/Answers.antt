@@ -5,7 +5,8 @@ use Rattle.folding.proofs.fold_and_trace.Goals as goal
 
 pub fold-requires : goal.fold-requires
 fold-requires c =
-    start_folding _ _ _ (rw (c.number.auto.points) c.requires.edges) (rw (c.number.auto.points) c.requires.points.1) c.number.ensures c.requires.empty
+    start_folding _ _ _ (rw (c.number.auto.points) c.requires.edges) (rw (c.number.auto.points) c.requires.points.1) c.number.ensures
+    (rw (c.number.auto.points) c.requires.room) c.requires.empty
 
 pub returns : goal.returns
 returns c = search (traced_in, rules)

@@ -1,14 +1,17 @@
-use Rattle.std.proofs.Common.{rules}
-use Rattle.std.proofs.Common.{length-take-le}
+use Rattle.std.proofs.Common.{length-take-le, rules}
 use Rattle.folding.proofs.Starting.{laid_among, told_by_graph}
 use Rattle.folding.proofs.traces_back.Goals as goal
 
-pub fold_and_trace-requires-clause-points : goal.fold_and_trace-requires-clause-points
-fold_and_trace-requires-clause-points c = (search (length-take-le, rules), search (length-take-le, rules))
-
-pub fold_and_trace-requires-clause-edges : goal.fold_and_trace-requires-clause-edges
-fold_and_trace-requires-clause-edges c =
+pub trace_with-requires-clause-edges : goal.trace_with-requires-clause-edges
+trace_with-requires-clause-edges c =
     laid_among c.args.system.now c.requires.system c.lay-laid.ensures.edges (search (length-take-le, rules))
 
-pub returns : goal.returns
-returns c = search (told_by_graph, rules)
+pub trace_with-requires-else-count-le-FEW_POINTS-clause-edges : goal.trace_with-requires-else-count-le-FEW_POINTS-clause-edges
+trace_with-requires-else-count-le-FEW_POINTS-clause-edges c =
+    laid_among c.args.system.now c.requires.system c.lay-laid.ensures.edges (search (length-take-le, rules))
+
+pub returns-then-count-le-FEW_POINTS : goal.returns-then-count-le-FEW_POINTS
+returns-then-count-le-FEW_POINTS c = search (told_by_graph, rules)
+
+pub returns-else-count-le-FEW_POINTS : goal.returns-else-count-le-FEW_POINTS
+returns-else-count-le-FEW_POINTS c = search (told_by_graph, rules)
