@@ -30,13 +30,13 @@ pub record Folding (edges : List Edge) (points leads : List ℕ) : Type 0 where
 abbrev pub IsFiled : List ℕ → List ℕ → Edge → Type 0
 IsFiled points leads s = lead points leads (point points s.from) s.letter ≡ Some (point points s.to)
 
--- since the points were those before, two have become one, which makes the sum of the edges' points smaller; or all are as they were, and
--- some steps are filed
-pub record Swept (edges : List Edge) (before : List ℕ) (some : Edge → Type 0) (changed : Bool) (points leads : List ℕ) : Type 0 where
+-- in a sweep so far: two points have become one, which makes the sum of the edges' points smaller; or all points are those before, and the
+-- steps that are done are filed
+pub record Swept (edges : List Edge) (before : List ℕ) (Done : Edge → Type 0) (changed : Bool) (points leads : List ℕ) : Type 0 where
   pub folding : Folding edges points leads
   pub smaller : changed ≡ true → total (folded_edges edges points) < total (folded_edges edges before)
   pub same : changed ≡ false → points ≡ before
-  pub filed : changed ≡ false → (s : Edge) → some s → IsFiled points leads s
+  pub filed : changed ≡ false → (s : Edge) → Done s → IsFiled points leads s
 
 -- a sweep goes over the edges from the first one up, or from the last one down
 abbrev pub edge_at_turn : List Edge → Bool → ℕ → Edge

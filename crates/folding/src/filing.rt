@@ -6,7 +6,7 @@ ghost use Rattle.folding.specs.Filing.{Fits, clashes, lead, leads_after, place, 
 use graphs::Edge;
 
 // A row for each point, with a place for each byte from A to z.
-const ROW: usize = 58;
+pub const ROW: usize = 58;
 
 // The place of a point and a letter.
 fn place(point: u16, letter: u16) -> usize

@@ -42,7 +42,8 @@ fn sweep(edges: &[Edge], down: bool, points: &mut [u16], leads: &mut [u16]) -> b
     changed
 }
 
-// Folds edges until none are left to fold: sweeps up and down by turns.
+// Folds edges until none are left to fold. Sweeps up and down take turns: where words have common ends a sweep down folds much that sweeps
+// up would fold one by one.
 pub fn fold(edges: &[Edge], points: &mut [u16], leads: &mut [u16])
     requires { Folding edges.now points.old leads.old }
     ensures { Folded edges.now points.new leads.new }

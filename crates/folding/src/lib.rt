@@ -13,21 +13,22 @@ ghost use Rattle.folding.specs.Filing.{Fits, traced};
 ghost use Rattle.folding.specs.Folding.{EdgeAmong, TracedIn};
 ghost use Rattle.folding.specs.Loops.{AllOfLetters, OfLetters};
 
-use filing::lead;
+use filing::{ROW, lead};
 use folds::fold;
 use graphs::Edge;
 use loops::lay;
 use slots::system::System;
 
-// The most points that the loops of a system have, the base and 62 for each of 16 words, and their places.
+// The most points that the loops of a system have: the base, and 62 for each of 16 words.
 const POINTS: usize = 993;
 
-const PLACES: usize = 57594;
+// A row of places for each of them.
+const PLACES: usize = POINTS * ROW;
 
-// Most systems have few points; then fewer places have to be cleared.
+// Most systems have no more points than these, and then fewer places have to be cleared.
 const FEW_POINTS: usize = 256;
 
-const FEW_PLACES: usize = 14848;
+const FEW_PLACES: usize = FEW_POINTS * ROW;
 
 // Whether the letters of a freely reduced word lead from the base back to the base in the folded graph of a system.
 pub fn traces_back(system: &System, word: &[u8], edges: &mut [Edge]) -> bool
@@ -48,16 +49,16 @@ pub fn traces_back(system: &System, word: &[u8], edges: &mut [Edge]) -> bool
     }
 }
 
-// The same for edges that are laid already, with so many places.
-fn trace_with<const PLACES: usize>(word: &[u8], edges: &[Edge], points: &mut [u16]) -> bool
+// The same for edges that are laid already, with room for so many places.
+fn trace_with<const ROOM: usize>(word: &[u8], edges: &[Edge], points: &mut [u16]) -> bool
     requires points { (0 < length points.old) × (length points.old ≤ 993) }
-    requires room { (length points.old * 58 ≤ PLACES) × (PLACES ≤ 57594) }
+    requires room { (length points.old * 58 ≤ ROOM) × (ROOM ≤ 57594) }
     requires edges { All (EdgeAmong (length points.old)) edges.now }
     requires letters { OfLetters word.now }
     requires freely { freely_reduce bytes word.now ≡ word.now }
     ensures { TracedIn edges.now word.now result }
 {
-    let mut leads = [0; PLACES];
+    let mut leads = [0; ROOM];
     fold_and_trace(word, edges, points, &mut leads)
 }
 
@@ -73,10 +74,10 @@ fn fold_and_trace(word: &[u8], edges: &[Edge], points: &mut [u16], leads: &mut [
 {
     number(points);
     fold(edges, points, leads);
-    trace(word, points, leads)
+    leads_back(word, points, leads)
 }
 
-// Lets each point be itself.
+// Lets each point be what it is.
 fn number(points: &mut [u16])
     requires { length points.old ≤ 993 }
     ensures { (p : ℕ) → p < length points.new → get_or points.new p 0 ≡ p }
@@ -87,7 +88,7 @@ fn number(points: &mut [u16])
 }
 
 // Whether the letters of a word lead from the base back to the base.
-fn trace(word: &[u8], points: &[u16], leads: &[u16]) -> bool
+fn leads_back(word: &[u8], points: &[u16], leads: &[u16]) -> bool
     requires fits { Fits points.now leads.now }
     requires base { 0 < length points.now }
     requires letters { OfLetters word.now }

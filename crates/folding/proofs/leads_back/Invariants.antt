@@ -1,6 +1,6 @@
 use Rattle.std.proofs.Common.{◌<◌, ◌≡◌, drop, length}
 use Rattle.folding.specs.Filing.{traced}
-use Rattle.folding.proofs.trace.Given as goal
+use Rattle.folding.proofs.leads_back.Given as goal
 
 abbrev pub invariant-loop-letter : goal.invariant-loop-letter
 invariant-loop-letter l =

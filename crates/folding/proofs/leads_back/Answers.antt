@@ -1,6 +1,6 @@
 use Rattle.std.proofs.Common.{rules}
 use Rattle.folding.proofs.Tracing.{lead_inside, traced_all, traced_nowhere, traced_on}
-use Rattle.folding.proofs.trace.Goals as goal
+use Rattle.folding.proofs.leads_back.Goals as goal
 
 pub returns-in_default : goal.returns-in_default
 returns-in_default c = search (traced_nowhere, rules)
