@@ -12,6 +12,7 @@ static void print_answer(const char *call, const subgroups_answer *a) {
 int main(void) {
     uint8_t record[SUBGROUPS_RECORD], blank[SUBGROUPS_RECORD], out[SUBGROUPS_RECORD], product[SUBGROUPS_RECORD];
     uint8_t text[SUBGROUPS_TEXT], numbers[SUBGROUPS_NUMBERS_RECORD];
+    static subgroups_edge table[SUBGROUPS_EDGES];
     uint64_t length;
     subgroups_answer answer;
     put_record(record, "abB");
@@ -70,5 +71,11 @@ int main(void) {
     print_answer("tidy numbers, no words", &answer);
     subgroups_tidy_numbers(numbers, sizeof numbers, NULL, 0, &answer);
     print_answer("tidy numbers into nothing", &answer);
+    subgroups_trace(NULL, 0, blank, sizeof blank, NULL, 0, &answer);
+    print_answer("trace with no table", &answer);
+    subgroups_trace(record, sizeof record, NULL, 0, NULL, 0, &answer);
+    print_answer("trace, no target", &answer);
+    subgroups_trace(NULL, 0, blank, sizeof blank, table, SUBGROUPS_EDGES, &answer);
+    print_answer("trace no words", &answer);
     return 0;
 }

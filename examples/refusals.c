@@ -7,6 +7,7 @@
 enum { MOST = SUBGROUPS_RECORD * (SUBGROUPS_SLOTS + 1) };
 
 static uint8_t system_of_two[MOST], target[SUBGROUPS_RECORD], words[MOST], moves[4 * SUBGROUPS_MOVE], product[SUBGROUPS_RECORD];
+static subgroups_edge table[SUBGROUPS_EDGES];
 static int wrong;
 
 /* Prints a refusal, and counts it where it is not the one expected. */
@@ -103,5 +104,8 @@ int main(void) {
 
     expect_number(SUBGROUPS_NUMBERS_MALFORMED, "numbers malformed", 132, 1);
     expect_number(SUBGROUPS_NUMBER_WITHOUT_LETTER, "number without letter", 2, 27);
+
+    subgroups_trace(system_of_two, 2 * SUBGROUPS_RECORD, target, sizeof target, table, SUBGROUPS_EDGES - 1, &answer);
+    expect(SUBGROUPS_EDGE_TABLE_SHORT, "edge table short", &answer);
     return wrong;
 }

@@ -2,9 +2,10 @@
  *
  * A few words generate a subgroup of a free group. The calls below reduce such a system of words in Nielsen's sense, decide
  * whether a word lies in the subgroup and give the product that it is, follow a log of moves forward and backward, and
- * multiply a product out; two more read and write words as people write them, with powers and commutators, and three keep
- * words as signed numbers. Every call takes byte buffers of any length and content, and either does its work or refuses; its
- * answer and each byte that it leaves are proved for all of them. docs/REQUIREMENTS.md says in full what is promised.
+ * multiply a product out; two more read and write words as people write them, with powers and commutators, three keep words as
+ * signed numbers, and one decides by Stallings' folded graph. Every call takes buffers of any length and content, and either does
+ * its work or refuses; its answer and each byte that it leaves are proved for all of them, but for the table of trace after an
+ * answer, which may then hold anything. docs/REQUIREMENTS.md says in full what is promised.
  *
  *                (cd crates/subgroups_c && rt lib)
  *                gcc -Iinclude program.c crates/subgroups_c/out/libsubgroups_c.a
@@ -34,14 +35,15 @@
  *            then w, form 3 w v, and form 4 w, then the inverse of v; the result is freely reduced.
  *
  * Buffers    words needs 64 bytes for each record of the system, product and word 64, log 4 for each move, the text of
- *            write_text 256, and the numbers of to_numbers, and tidied, 128 for each record. A longer buffer does no harm:
+ *            write_text 256, the numbers of to_numbers, and tidied, 128 for each record, and table 1,008 edges, which are
+ *            counted as edges and not as bytes. A longer buffer does no harm:
  *            bytes after the last one written stay as they were. A refusal changes nothing but the answer, and the length
  *            that write_text gives, except that under SUBGROUPS_LOG_BUFFER_SHORT the log holds, as whole log records, the
  *            first moves that fit.
  *            How many moves a system takes is not known beforehand: 16 random words take some dozens, more than 1,000 have been
  *            seen, and no bound is promised. A caller that gets SUBGROUPS_LOG_BUFFER_SHORT lends a longer log and calls again.
- *            What is written (words, log, product, word, text, length, answer, the numbers of to_numbers, tidied) must not
- *            overlap any other buffer; buffers that are only read may. Where a buffer's length is 0 its pointer may be
+ *            What is written (words, log, product, word, text, length, answer, the numbers of to_numbers, tidied, table) must
+ *            not overlap any other buffer; buffers that are only read may. Where a buffer's length is 0 its pointer may be
  *            anything, NULL too; answer and length must not be NULL.
  *
  * Targets    A service with many targets for one system calls reduce once, keeps the reduced words (64 bytes for each record of
@@ -72,6 +74,16 @@
  *            A system of numbers is 0 to 16 such records. to_numbers writes a system as a system of numbers, and from_numbers
  *            writes it back, where every number is from -26 to 26; there and back, and back and there, give the same bytes.
  *            tidy_numbers removes neighbours x and -x until none are left.
+ *
+ * Graphs     The graph of a system has a loop at a base point for each word that is not empty after free reduction; two edges
+ *            with the same letter that leave, or enter, one point are folded together until none are left. The system generates
+ *            a target exactly when the target's freely reduced letters trace a path from the base back to the base. trace
+ *            decides by this, and agrees with member wherever both have enough room. It lays and folds the edges in a table
+ *            that the caller lends, and hands back no product. Each trace folds the graph anew: for many targets of one system
+ *            reduce and ask are quicker.
+ *
+ * Stack      trace takes some 120,000 bytes of stack, in which it keeps where each point leads by each letter; a thread with a
+ *            small stack needs more for it. No other call takes as much.
  *
  * Threads    The library keeps nothing between calls and allocates nothing. Calls may run side by side in any number of
  *            threads, as long as no call writes a buffer that another one uses.
@@ -106,20 +118,21 @@ extern "C" {
 #endif
 
 enum {
-    SUBGROUPS_RECORD = 64,          /* the bytes of a record */
-    SUBGROUPS_LETTERS = 63,         /* the most letters of a word */
-    SUBGROUPS_SLOTS = 16,           /* the most records of a system */
-    SUBGROUPS_MOVE = 4,             /* the bytes of a log record, which is one move */
-    SUBGROUPS_TEXT = 256,           /* the most bytes of a text to read, and the room that write_text asks for */
-    SUBGROUPS_NUMBERS_RECORD = 128, /* the bytes of a record of numbers */
-    SUBGROUPS_LARGEST_NUMBER = 1000 /* the largest number of a generator */
+    SUBGROUPS_RECORD = 64,           /* the bytes of a record */
+    SUBGROUPS_LETTERS = 63,          /* the most letters of a word */
+    SUBGROUPS_SLOTS = 16,            /* the most records of a system */
+    SUBGROUPS_MOVE = 4,              /* the bytes of a log record, which is one move */
+    SUBGROUPS_TEXT = 256,            /* the most bytes of a text to read, and the room that write_text asks for */
+    SUBGROUPS_NUMBERS_RECORD = 128,  /* the bytes of a record of numbers */
+    SUBGROUPS_LARGEST_NUMBER = 1000, /* the largest number of a generator */
+    SUBGROUPS_EDGES = 1008           /* the edges that trace asks for */
 };
 
 /* What a call says: answer.verdict. */
 enum subgroups_verdict {
-    SUBGROUPS_DONE = 0,       /* every call but ask and member, where it is not refused */
-    SUBGROUPS_MEMBER = 1,     /* ask and member alone */
-    SUBGROUPS_NOT_MEMBER = 2, /* ask and member alone */
+    SUBGROUPS_DONE = 0,       /* every call but ask, member and trace, where it is not refused */
+    SUBGROUPS_MEMBER = 1,     /* ask, member and trace alone */
+    SUBGROUPS_NOT_MEMBER = 2, /* ask, member and trace alone */
     SUBGROUPS_REFUSED = 3     /* number and place say why and where */
 };
 
@@ -161,8 +174,9 @@ enum subgroups_refusal {
     SUBGROUPS_NUMBERS_MALFORMED = 19,          /* a number of a record is not from -1,000 to 1,000, or it is not zero and stands
                                                   after a zero or is the last of its record; place: the first such
                                                   number's first byte */
-    SUBGROUPS_NUMBER_WITHOUT_LETTER = 20       /* from_numbers: a number is above 26 or below -26; place: the first such
+    SUBGROUPS_NUMBER_WITHOUT_LETTER = 20,      /* from_numbers: a number is above 26 or below -26; place: the first such
                                                   number's first byte */
+    SUBGROUPS_EDGE_TABLE_SHORT = 21            /* the table has fewer than 1,008 edges */
 };
 
 /* The answer of a call. number and place are those of a refusal; what a call does not give is 0, and under a refusal all that
@@ -170,6 +184,11 @@ enum subgroups_refusal {
 typedef struct {
     uint64_t verdict, number, place, moves, rank, independent, reduced;
 } subgroups_answer;
+
+/* An edge of a graph: the point that it leaves, the byte of its letter, and the point that it enters. */
+typedef struct {
+    uint16_t from, letter, to;
+} subgroups_edge;
 
 /* Writes each record of a system, freely reduced, into the same slot of words. Refusals 2, 1, 3 to 5 and 10. */
 void subgroups_tidy(const uint8_t *system, size_t system_len, uint8_t *words, size_t words_len,
@@ -231,6 +250,12 @@ void subgroups_from_numbers(const uint8_t *numbers, size_t numbers_len, uint8_t 
 /* Writes each record of a system of numbers, freely reduced, into the same slot of tidied. Refusals 2, 1, 19 and 10. */
 void subgroups_tidy_numbers(const uint8_t *numbers, size_t numbers_len, uint8_t *tidied, size_t tidied_len,
                             subgroups_answer *answer);
+
+/* Decides by the folded graph of a system whether it generates a target: gives the verdict member or not a member, and no number
+ * but those of a refusal. What the table holds after an answer is not promised; a refusal leaves it as it was. Refusals 2, 1,
+ * 3 to 6 and 21. */
+void subgroups_trace(const uint8_t *system, size_t system_len, const uint8_t *target, size_t target_len,
+                     subgroups_edge *table, size_t edges, subgroups_answer *answer);
 
 #ifdef __cplusplus
 }
