@@ -62,9 +62,6 @@ module _ (edges : List Edge) (points leads : List ℕ) (among : All (EdgeAmong (
         }
 
 -- the loops of words lie between the points that were counted
-among_more : (n m : ℕ) → n ≤ m → (t : List Edge) → All (EdgeAmong n) t → All (EdgeAmong m) t
-among_more n m l t h k d i = let a = h k d i in (omega (arith, a.0), omega (arith, a.1), a.2)
-
 loop_among : (w : List ℕ) → OfLetters w → (p n m : ℕ) → p < m → 1 ≤ m → n + (length w - 1) ≤ m → All (EdgeAmong m) (loop p n w)
 loop_among [] l p n m a b c = All-nil (EdgeAmong m)
 loop_among (x ∷ []) l p n m a b c = All-cons (EdgeAmong m) (edge p x 0) [] (a, b, All-head (λ z. is_letter z ≡ true) x [] l) (All-nil (EdgeAmong m))

@@ -18,7 +18,7 @@ use Rattle.graphs.specs.Graphs.{back, edge}
 use Rattle.graphs.specs.declared.Edge.{Edge}
 use Rattle.graphs.proofs.Contained.{contains-map, contains_of_map}
 use Rattle.folding.specs.Filing.{Fits, clashes, lead, leads_after, point, points_after}
-use Rattle.folding.specs.Folding.{AnyStep, Folded, Folding, IsFiled, StepBefore, Swept, edge_at_turn, folded_edges}
+use Rattle.folding.specs.Folding.{AnyStep, Folding, IsFiled, StepBefore, Swept, edge_at_turn, folded_edges}
 use Rattle.folding.proofs.Filed.{agrees_clashes, agrees_points, differs_clashes, differs_points, found_leads, vacant_clashes, vacant_points, vacant_set}
 use Rattle.folding.proofs.Keeping.{joined_falls, joined_kept, step_among, vacant_filed, vacant_kept, vacant_stays}
 
@@ -88,10 +88,6 @@ module _ (edges : List Edge) where
       → Swept edges before some changed points leads → Swept edges before more changed points leads
   swept_some before points leads some more changed h w =
       record { folding = w.folding; smaller = w.smaller; same = w.same; filed = λ e s k. w.filed e s (h s k) }
-
-  pub swept_start : (points leads : List ℕ) (down : Bool) → Folding edges points leads → Swept edges points (StepBefore edges down 0) false points leads
-  swept_start points leads down f =
-      record { folding = f; smaller = λ h. absurd (true≢false (sym h)); same = λ _. refl; filed = λ _ s k. absurd (omega (arith, k.1)) }
 
   module _ (down : Bool) (turn : ℕ) (inside : turn < length edges) where
     place_inside : cond down (length edges - 1 - turn) turn < length edges
@@ -175,7 +171,3 @@ module _ (edges : List Edge) where
             let r = edge_turn e.0 e.1 in
             (r.0, r.1, inr (sym e.2 ∙ ap (back bytes) r.2)))
       ]
-
-  -- a sweep that changes nothing ends the folding
-  pub swept_folded : {before points leads : List ℕ} {changed : Bool} → Swept edges before (AnyStep edges) changed points leads → changed ≡ false → Folded edges points leads
-  swept_folded w e = record { folding = w.folding; filed = w.filed e }

@@ -1,6 +1,6 @@
 -- Two points made one: which numbers that changes, and that it makes none larger.
 use Prim.Native.Nat.{ℕ, ◌≤◌, max, min}
-use mathlib.Core.Path.{◌≡◌, ◌∙◌}
+use mathlib.Core.Path.{◌≡◌}
 use mathlib.Core.Logic.{◌⊎◌, inl, inr}
 use native.Mathlib.Omega.{arith}
 use native.Mathlib.Decide.{ℕ_discrete}
@@ -28,24 +28,6 @@ joined-le p q r = elim (joined_cases p q r) [
 
 pub joined_base : (p q : ℕ) → joined p q 0 ≡ 0
 joined_base p q = omega (arith, joined-le p q 0)
-
-pub joined_one : (p q : ℕ) → joined p q p ≡ min p q
-joined_one p q = elim (joined_cases p q p) [
-  | inl e ↦ elim (ℕ_discrete p (max p q)) [
-    | yes h ↦ joined_larger p q p h
-    | no n ↦ e ∙ omega arith
-  ]
-  | inr h ↦ h.1
-]
-
-pub joined_other : (p q : ℕ) → joined p q q ≡ min p q
-joined_other p q = elim (joined_cases p q q) [
-  | inl e ↦ elim (ℕ_discrete q (max p q)) [
-    | yes h ↦ joined_larger p q q h
-    | no n ↦ e ∙ omega arith
-  ]
-  | inr h ↦ h.1
-]
 
 -- made one once more, they stay as they are
 pub joined_twice : (p q r : ℕ) → joined p q (joined p q r) ≡ joined p q r
