@@ -13,7 +13,7 @@ use Rattle.std.proofs.lemmas.List.{get_or_default}
 use Rattle.std.proofs.lemmas.List.Edits.{map_over_more}
 use Rattle.graphs.specs.Graphs.{joined}
 use Rattle.graphs.specs.declared.Edge.{Edge}
-use Rattle.folding.specs.Filing.{clash, clashes, filed_leads, filed_point, folded_points, lead, leads_after, place, point, points_after}
+use Rattle.folding.specs.Filing.{to_fold, step_folds, filed_index, entry_point, folded_points, lead, index_after, place, point, points_after}
 
 -- two points are made one in each place up to i
 pub joined_next : (one other : ℕ) (xs ys : List ℕ) (i : ℕ) {y : ℕ} → i < length xs → length ys ≡ length xs
@@ -21,59 +21,59 @@ pub joined_next : (one other : ℕ) (xs ys : List ℕ) (i : ℕ) {y : ℕ} → i
     → set ys i y ≡ map (joined one other) (take (i + 1) xs) ++ drop (i + 1) xs
 joined_next one other xs ys i h l e is = rw (is) (map_over_more (joined one other) xs ys i (get_or ys i 0) h e (get_or_default ys i 0 (get_or ys i 0) (omega (arith, h, l))))
 
-module _ (points leads : List ℕ) where
+module _ (points index : List ℕ) where
   module _ (p x : ℕ) where
-    pub lead_none : {at : ℕ} → at ≡ place p x → get_or leads at 0 ≡ 0 → None ≡ lead points leads p x
+    pub lead_none : {at : ℕ} → at ≡ place p x → get_or index at 0 ≡ 0 → None ≡ lead points index p x
     unfolding lead
-    lead_none {at = at} e h = ap (filed_point points) (sym h ∙ ap (λ (i : ℕ). get_or leads i 0) e)
+    lead_none {at = at} e h = ap (entry_point points) (sym h ∙ ap (λ (i : ℕ). get_or index i 0) e)
 
-    pub lead_some : {at : ℕ} → at ≡ place p x → (get_or leads at 0 ≡ 0 → ⊥) → Some (get_or points (get_or leads at 0 - 1) 0) ≡ lead points leads p x
+    pub lead_some : {at : ℕ} → at ≡ place p x → (get_or index at 0 ≡ 0 → ⊥) → Some (get_or points (get_or index at 0 - 1) 0) ≡ lead points index p x
     unfolding lead
-    lead_some {at = at} e n = go (get_or leads at 0) n ∙ ap (λ (i : ℕ). filed_point points (get_or leads i 0)) e
+    lead_some {at = at} e n = go (get_or index at 0) n ∙ ap (λ (i : ℕ). entry_point points (get_or index i 0)) e
       where
-        go : (q : ℕ) → (q ≡ 0 → ⊥) → Some (get_or points (q - 1) 0) ≡ filed_point points q
+        go : (q : ℕ) → (q ≡ 0 → ⊥) → Some (get_or points (q - 1) 0) ≡ entry_point points q
         go zero n = absurd (n refl)
         go (suc q) n = let e : suc q - 1 ≡ q = omega arith in rw (e) refl
 
   -- the three cases of filing a step
   module _ (e : Edge) where
-    module _ {o : Option ℕ} (is : o ≡ lead points leads (get_or points e.from 0) e.letter) (nowhere : o ≡ None) where
-      pub vacant_clashes : false ≡ clashes points leads e
-      unfolding clashes
-      vacant_clashes = ap (λ (z : Option ℕ). clash z (point points e.to)) (sym nowhere ∙ is)
+    module _ {o : Option ℕ} (is : o ≡ lead points index (get_or points e.from 0) e.letter) (nowhere : o ≡ None) where
+      pub vacant_folds : false ≡ step_folds points index e
+      unfolding step_folds
+      vacant_folds = ap (λ (z : Option ℕ). to_fold z (point points e.to)) (sym nowhere ∙ is)
 
-      pub vacant_points : points ≡ points_after points leads e
+      pub vacant_points : points ≡ points_after points index e
       unfolding points_after
       vacant_points = ap (λ (z : Option ℕ). folded_points z (point points e.to) points) (sym nowhere ∙ is)
 
-      pub vacant_set : set leads (place (get_or points e.from 0) e.letter) (suc (get_or points e.to 0)) ≡ leads_after points leads e
-      unfolding leads_after
-      vacant_set = ap (λ (z : Option ℕ). filed_leads z (point points e.to) (place (point points e.from) e.letter) leads) (sym nowhere ∙ is)
+      pub vacant_set : set index (place (get_or points e.from 0) e.letter) (suc (get_or points e.to 0)) ≡ index_after points index e
+      unfolding index_after
+      vacant_set = ap (λ (z : Option ℕ). filed_index z (point points e.to) (place (point points e.from) e.letter) index) (sym nowhere ∙ is)
 
-      pub vacant_leads : {at : ℕ} → at ≡ place (get_or points e.from 0) e.letter → set leads at (get_or points e.to 0 + 1) ≡ leads_after points leads e
-      vacant_leads a = rw (a, add-one) vacant_set
+      pub vacant_index : {at : ℕ} → at ≡ place (get_or points e.from 0) e.letter → set index at (get_or points e.to 0 + 1) ≡ index_after points index e
+      vacant_index a = rw (a, add-one) vacant_set
 
-    module _ {r : ℕ} (is : Some r ≡ lead points leads (get_or points e.from 0) e.letter) where
-      to_clashes : not (eqb r (point points e.to)) ≡ clashes points leads e
-      unfolding clashes
-      to_clashes = ap (λ (z : Option ℕ). clash z (point points e.to)) is
+    module _ {r : ℕ} (is : Some r ≡ lead points index (get_or points e.from 0) e.letter) where
+      to_folds : not (eqb r (point points e.to)) ≡ step_folds points index e
+      unfolding step_folds
+      to_folds = ap (λ (z : Option ℕ). to_fold z (point points e.to)) is
 
-      to_points : cond (eqb r (point points e.to)) points (map (joined r (point points e.to)) points) ≡ points_after points leads e
+      to_points : cond (eqb r (point points e.to)) points (map (joined r (point points e.to)) points) ≡ points_after points index e
       unfolding points_after
       to_points = ap (λ (z : Option ℕ). folded_points z (point points e.to) points) is
 
-      pub found_leads : leads ≡ leads_after points leads e
-      unfolding leads_after
-      found_leads = ap (λ (z : Option ℕ). filed_leads z (point points e.to) (place (point points e.from) e.letter) leads) is
+      pub found_index : index ≡ index_after points index e
+      unfolding index_after
+      found_index = ap (λ (z : Option ℕ). filed_index z (point points e.to) (place (point points e.from) e.letter) index) is
 
-      pub agrees_clashes : r ≡ get_or points e.to 0 → false ≡ clashes points leads e
-      agrees_clashes same = rw (eq-eqb r (get_or points e.to 0) same) at to_clashes
+      pub agrees_folds : r ≡ get_or points e.to 0 → false ≡ step_folds points index e
+      agrees_folds same = rw (eq-eqb r (get_or points e.to 0) same) at to_folds
 
-      pub agrees_points : r ≡ get_or points e.to 0 → points ≡ points_after points leads e
+      pub agrees_points : r ≡ get_or points e.to 0 → points ≡ points_after points index e
       agrees_points same = rw (eq-eqb r (get_or points e.to 0) same) at to_points
 
-      pub differs_clashes : (r ≡ get_or points e.to 0 → ⊥) → true ≡ clashes points leads e
-      differs_clashes n = rw (ne_eqb r (get_or points e.to 0) n) at to_clashes
+      pub differs_folds : (r ≡ get_or points e.to 0 → ⊥) → true ≡ step_folds points index e
+      differs_folds n = rw (ne_eqb r (get_or points e.to 0) n) at to_folds
 
-      pub differs_points : (r ≡ get_or points e.to 0 → ⊥) → map (joined r (get_or points e.to 0)) points ≡ points_after points leads e
+      pub differs_points : (r ≡ get_or points e.to 0 → ⊥) → map (joined r (get_or points e.to 0)) points ≡ points_after points index e
       differs_points n = rw (ne_eqb r (get_or points e.to 0) n) at to_points

@@ -18,12 +18,12 @@ use Rattle.records.proofs.RoundTrip.{letter-flip, letter_high, letter_low}
 use Rattle.graphs.specs.Folding.{total}
 use Rattle.graphs.specs.Graphs.{Fold, Step, back, joined, more, moved_edge, none as no_fold, steps}
 use Rattle.graphs.specs.declared.Edge.{Edge}
-use Rattle.graphs.proofs.Contained.{contains_of_map}
+use Rattle.words.proofs.Contained.{contains_of_map}
 use Rattle.graphs.proofs.Folds.{fold_falls, folds_then}
 use Rattle.graphs.proofs.Joined.{joined-le, joined_base, joined_cases, joined_twice}
 use Rattle.graphs.proofs.Steps.{step_moved}
-use Rattle.folding.specs.Filing.{filed_point, lead, place, point}
-use Rattle.folding.specs.Folding.{EdgeAmong, Folding, IsFiled, folded_edges}
+use Rattle.folding.specs.Filing.{entry_point, lead, place, point}
+use Rattle.folding.specs.Sweeps.{EdgeAmong, FoldedSoFar, IsFiled, folded_edges}
 
 -- equal places are those of one point and one letter
 place_one : (p x q y : ℕ) → is_letter x ≡ true → is_letter y ≡ true → place p x ≡ place q y → (p ≡ q) × (x ≡ y)
@@ -45,23 +45,23 @@ step_among n edges h s k = elim (Contains-append_cases edges (map (back bytes) e
       subst (EdgeAmong n) r.2 (a.1, a.0, letter-flip r.0.letter a.2))
 ]
 
-lead-is : (points leads : List ℕ) (p x : ℕ) → lead points leads p x ≡ filed_point points (get_or leads (place p x) 0)
+lead-is : (points index : List ℕ) (p x : ℕ) → lead points index p x ≡ entry_point points (get_or index (place p x) 0)
 unfolding lead
-lead-is points leads p x = refl
+lead-is points index p x = refl
 
-filed_some : (points : List ℕ) (k q : ℕ) → filed_point points k ≡ Some q → (r : ℕ) × (k ≡ suc r) × (point points r ≡ q)
+filed_some : (points : List ℕ) (k q : ℕ) → entry_point points k ≡ Some q → (r : ℕ) × (k ≡ suc r) × (point points r ≡ q)
 filed_some points zero q h = absurd (none-some q h)
 filed_some points (suc r) q h = (r, refl, same_Some (point points r) q h)
 
-module _ (points leads : List ℕ) (at q p x : ℕ) where
+module _ (points index : List ℕ) (at q p x : ℕ) where
   -- where points lead after one more step was filed
-  lead_there : at < length leads → place p x ≡ at → lead points (set leads at (suc q)) p x ≡ Some (point points q)
-  lead_there h e = lead-is points (set leads at (suc q)) p x
-      ∙ ap (filed_point points) (ap (λ (k : ℕ). get_or (set leads at (suc q)) k 0) e ∙ get_or-set_same leads at (suc q) 0 h)
+  lead_there : at < length index → place p x ≡ at → lead points (set index at (suc q)) p x ≡ Some (point points q)
+  lead_there h e = lead-is points (set index at (suc q)) p x
+      ∙ ap (entry_point points) (ap (λ (k : ℕ). get_or (set index at (suc q)) k 0) e ∙ get_or-set_same index at (suc q) 0 h)
 
-  lead_elsewhere : (place p x ≡ at → ⊥) → lead points (set leads at (suc q)) p x ≡ lead points leads p x
-  lead_elsewhere n = lead-is points (set leads at (suc q)) p x
-      ∙ ap (filed_point points) (get_or-set_other leads at (place p x) (suc q) 0 n) ∙ sym (lead-is points leads p x)
+  lead_elsewhere : (place p x ≡ at → ⊥) → lead points (set index at (suc q)) p x ≡ lead points index p x
+  lead_elsewhere n = lead-is points (set index at (suc q)) p x
+      ∙ ap (entry_point points) (get_or-set_other index at (place p x) (suc q) 0 n) ∙ sym (lead-is points index p x)
 
 -- and after two points were made one
 point_joined : (r q : ℕ) (points : List ℕ) (p : ℕ) → point (map (joined r q) points) p ≡ joined r q (point points p)
@@ -72,16 +72,16 @@ edges_joined : (r q : ℕ) (points : List ℕ) (t : List Edge)
 edges_joined r q points [] = refl
 edges_joined r q points (e ∷ t) = rw (point_joined r q points e.from, point_joined r q points e.to, edges_joined r q points t) refl
 
-filed_joined : (r q : ℕ) (points : List ℕ) (k v : ℕ) → filed_point (map (joined r q) points) k ≡ Some v
-    → (u : ℕ) × (filed_point points k ≡ Some u) × (joined r q u ≡ v)
+filed_joined : (r q : ℕ) (points : List ℕ) (k v : ℕ) → entry_point (map (joined r q) points) k ≡ Some v
+    → (u : ℕ) × (entry_point points k ≡ Some u) × (joined r q u ≡ v)
 filed_joined r q points zero v h = absurd (none-some v h)
 filed_joined r q points (suc k) v h = (point points k, refl, sym (point_joined r q points k) ∙ same_Some (point (map (joined r q) points) k) v h)
 
-module _ (edges : List Edge) (points leads : List ℕ) (f : Folding edges points leads) where
+module _ (edges : List Edge) (points index : List ℕ) (f : FoldedSoFar edges points index) where
   -- where a point leads is a point that has not become another one
-  pub lead_settled : (p x q : ℕ) → lead points leads p x ≡ Some q → (point points q ≡ q) × (q < length points)
+  pub lead_settled : (p x q : ℕ) → lead points index p x ≡ Some q → (point points q ≡ q) × (q < length points)
   lead_settled p x q h =
-      let (r, e, i) = filed_some points (get_or leads (place p x) 0) q (sym (lead-is points leads p x) ∙ h) in
+      let (r, e, i) = filed_some points (get_or index (place p x) 0) q (sym (lead-is points index p x) ∙ h) in
       let inside : r < length points = omega (arith, e, f.fits.filed_low (place p x)) in
       (subst (λ (z : ℕ). point points z ≡ z) i (f.settled r), subst (λ (z : ℕ). z < length points) i (f.fits.low r inside))
 
@@ -95,32 +95,32 @@ module _ (edges : List Edge) (points leads : List ℕ) (f : Folding edges points
     abbrev at : ℕ
     at = place (point points s.from) s.letter
 
-    inside : at < length leads
+    inside : at < length index
     inside = omega (arith, f.fits.room, f.fits.few, f.fits.low s.from among.0, letter_low s.letter among.2, letter_high s.letter among.2)
 
-    module _ (nowhere : lead points leads (point points s.from) s.letter ≡ None) where
-      abbrev leads' : List ℕ
-      leads' = set leads at (suc (point points s.to))
+    module _ (nowhere : lead points index (point points s.from) s.letter ≡ None) where
+      abbrev index' : List ℕ
+      index' = set index at (suc (point points s.to))
 
-      vacant_sound : (p x q : ℕ) → is_letter x ≡ true → point points p ≡ p → lead points leads' p x ≡ Some q → Step bytes (folded_edges edges points) p x q
+      vacant_sound : (p x q : ℕ) → is_letter x ≡ true → point points p ≡ p → lead points index' p x ≡ Some q → Step bytes (folded_edges edges points) p x q
       vacant_sound p x q l o h = elim (ℕ_discrete (place p x) at) [
         | yes e ↦ (
             let one = place_one p x (point points s.from) s.letter l among.2 e in
-            let to : point points s.to ≡ q = sym (f.settled s.to) ∙ same_Some (point points (point points s.to)) q (sym (lead_there points leads at (point points s.to) p x inside e) ∙ h) in
+            let to : point points s.to ≡ q = sym (f.settled s.to) ∙ same_Some (point points (point points s.to)) q (sym (lead_there points index at (point points s.to) p x inside e) ∙ h) in
             rw (one.0, one.1, ← to) taken)
-        | no n ↦ f.sound p x q l o (sym (lead_elsewhere points leads at (point points s.to) p x n) ∙ h)
+        | no n ↦ f.sound p x q l o (sym (lead_elsewhere points index at (point points s.to) p x n) ∙ h)
       ]
 
-      vacant_low : (i : ℕ) → get_or leads' i 0 ≤ length points
+      vacant_low : (i : ℕ) → get_or index' i 0 ≤ length points
       vacant_low i = elim (ℕ_discrete i at) [
-        | yes e ↦ rw (e, get_or-set_same leads at (suc (point points s.to)) 0 inside) (f.fits.low s.to among.1)
-        | no n ↦ rw (get_or-set_other leads at i (suc (point points s.to)) 0 n) (f.fits.filed_low i)
+        | yes e ↦ rw (e, get_or-set_same index at (suc (point points s.to)) 0 inside) (f.fits.low s.to among.1)
+        | no n ↦ rw (get_or-set_other index at i (suc (point points s.to)) 0 n) (f.fits.filed_low i)
       ]
 
-      pub vacant_kept : Folding edges points leads'
+      pub vacant_kept : FoldedSoFar edges points index'
       vacant_kept =
           record {
-            fits = record { few = f.fits.few; room = omega (arith, length-set leads at (suc (point points s.to)), f.fits.room); low = f.fits.low; filed_low = vacant_low };
+            fits = record { few = f.fits.few; room = omega (arith, length-set index at (suc (point points s.to)), f.fits.room); low = f.fits.low; filed_low = vacant_low };
             among = f.among;
             folds = f.folds;
             base = f.base;
@@ -128,19 +128,19 @@ module _ (edges : List Edge) (points leads : List ℕ) (f : Folding edges points
             sound = vacant_sound;
           }
 
-      pub vacant_filed : IsFiled points leads' s
-      vacant_filed = lead_there points leads at (point points s.to) (point points s.from) s.letter inside refl ∙ ap (λ (z : ℕ). Some z) (f.settled s.to)
+      pub vacant_filed : IsFiled points index' s
+      vacant_filed = lead_there points index at (point points s.to) (point points s.from) s.letter inside refl ∙ ap (λ (z : ℕ). Some z) (f.settled s.to)
 
       -- what was filed stays filed
-      pub vacant_stays : (t : Edge) → IsFiled points leads t → IsFiled points leads' t
+      pub vacant_stays : (t : Edge) → IsFiled points index t → IsFiled points index' t
       vacant_stays t h = elim (ℕ_discrete (place (point points t.from) t.letter) at) [
         | yes e ↦ absurd (none-some (point points t.to)
-            (sym nowhere ∙ lead-is points leads (point points s.from) s.letter
-            ∙ ap (λ (k : ℕ). filed_point points (get_or leads k 0)) (sym e) ∙ sym (lead-is points leads (point points t.from) t.letter) ∙ h))
-        | no n ↦ lead_elsewhere points leads at (point points s.to) (point points t.from) t.letter n ∙ h
+            (sym nowhere ∙ lead-is points index (point points s.from) s.letter
+            ∙ ap (λ (k : ℕ). entry_point points (get_or index k 0)) (sym e) ∙ sym (lead-is points index (point points t.from) t.letter) ∙ h))
+        | no n ↦ lead_elsewhere points index at (point points s.to) (point points t.from) t.letter n ∙ h
       ]
 
-    module _ (r : ℕ) (is : lead points leads (point points s.from) s.letter ≡ Some r) (differ : r ≡ point points s.to → ⊥) where
+    module _ (r : ℕ) (is : lead points index (point points s.from) s.letter ≡ Some r) (differ : r ≡ point points s.to → ⊥) where
       abbrev q : ℕ
       q = point points s.to
 
@@ -188,12 +188,12 @@ module _ (edges : List Edge) (points leads : List ℕ) (f : Folding edges points
         | inr e ↦ rw (sym e.1 ∙ h) at smaller_own
       ]
 
-      joined_sound : (p x v : ℕ) → is_letter x ≡ true → point points' p ≡ p → lead points' leads p x ≡ Some v → Step bytes (folded_edges edges points') p x v
+      joined_sound : (p x v : ℕ) → is_letter x ≡ true → point points' p ≡ p → lead points' index p x ≡ Some v → Step bytes (folded_edges edges points') p x v
       joined_sound p x v l o h =
           let own : joined r q (point points p) ≡ p = sym (point_joined r q points p) ∙ o in
           let before : point points p ≡ p = own_before p own in
-          let (u, e, i) = filed_joined r q points (get_or leads (place p x) 0) v (sym (lead-is points' leads p x) ∙ h) in
-          let step = f.sound p x u l before (lead-is points leads p x ∙ e) in
+          let (u, e, i) = filed_joined r q points (get_or index (place p x) 0) v (sym (lead-is points' index p x) ∙ h) in
+          let step = f.sound p x u l before (lead-is points index p x ∙ e) in
           let stays : joined r q p ≡ p = ap (joined r q) (sym before) ∙ own in
           rw (edges_joined r q points edges) (rw (stays, i) at (step_moved bytes byte_laws (joined r q) (folded_edges edges points) p x u step))
 
@@ -203,7 +203,7 @@ module _ (edges : List Edge) (points leads : List ℕ) (f : Folding edges points
           let l : point points p < length points = f.fits.low p (omega (arith, h, same)) in
           omega (arith, point_joined r q points p, joined-le r q (point points p), l, same)
 
-      pub joined_kept : Folding edges points' leads
+      pub joined_kept : FoldedSoFar edges points' index
       joined_kept =
           let same : length points' ≡ length points = length-map points (joined r q) in
           record {

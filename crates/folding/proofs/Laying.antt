@@ -1,4 +1,4 @@
--- Laying the loops of a system: letter by letter and word by word; the edges lie between the points that were counted.
+-- Laying the loops of a system: one word more.
 use Prim.Native.Nat.{ℕ, ◌+◌, ◌-◌, ◌≤◌, ◌<◌}
 use mathlib.Core.Path.{◌≡◌, refl, sym, ap, ◌∙◌}
 use mathlib.Core.List.{List, [], ◌∷◌, ◌++◌, append_assoc}

@@ -1,11 +1,13 @@
--- Before the first fold: each point is itself, and no step is filed; and what an answer at the end says of the system.
+-- Before the first fold: each point is itself, no step is filed, and the edges lie between few points; and what an answer at the end says of
+-- the system.
 use Prim.Native.Nat.{ℕ, suc, ◌+◌, ◌-◌, ◌*◌, ◌≤◌, ◌<◌}
 use mathlib.Core.Path.{◌≡◌, refl, sym, ap, ◌∙◌}
-use mathlib.Core.Bool.{Bool, true}
+use mathlib.Core.Bool.{Bool}
 use mathlib.Core.List.{List, [], ◌∷◌, map}
 use native.Mathlib.Decide.{dec_lt}
 use native.Mathlib.Omega.{arith}
-use lib.ListN.{get_or, get_or-eq_default, length}
+use lib.ListN.{get_or, get_or-eq_default, length, length-append, replicate}
+use Rattle.std.proofs.lemmas.List.{get_or-replicate, length-replicate}
 use Rattle.std.specs.Prelude.{All, None}
 use Rattle.std.proofs.lemmas.List.Elements.{All-append, All-cons, All-head, All-nil, All-tail}
 use Rattle.std.proofs.lemmas.Option.{none-some}
@@ -13,16 +15,17 @@ use Rattle.words.specs.Alphabet.{bytes}
 use Rattle.words.proofs.Alphabet.{byte_laws}
 use Rattle.systems.specs.Products.{FreelyReduced}
 use Rattle.systems.proofs.Equivalence.{freely_reduced-same}
-use Rattle.records.specs.Records.{is_letter}
+use Rattle.records.specs.Records.{AllLetters}
+use Rattle.slots.specs.Systems.{AllShort, LetterWords}
 use Rattle.graphs.specs.Folding.{member_by_graph}
 use Rattle.graphs.specs.Graphs.{edge, loop, loops, moved_edge, none as no_fold}
 use Rattle.graphs.specs.declared.Edge.{Edge}
 use Rattle.graphs.proofs.Deciding.{traces_back-member_by_graph}
-use Rattle.folding.specs.Filing.{filed_point, lead, place, point}
-use Rattle.folding.specs.Folding.{EdgeAmong, Folding, TracedIn}
-use Rattle.folding.specs.Loops.{AllOfLetters, OfLetters, points_with_loops}
+use Rattle.folding.specs.Filing.{entry_point, lead, place, point}
+use Rattle.folding.specs.Sweeps.{EdgeAmong, FoldedSoFar, TracedIn}
+use Rattle.folding.specs.Loops.{points_with_loops}
 
-module _ (edges : List Edge) (points leads : List ℕ) (among : All (EdgeAmong (length points)) edges) (few : length points ≤ 993)
+module _ (edges : List Edge) (points index : List ℕ) (among : All (EdgeAmong (length points)) edges) (few : length points ≤ 993)
     (own : (p : ℕ) → p < length points → point points p ≡ p) where
   own_edges : (t : List Edge) → All (EdgeAmong (length points)) t → t ≡ map (moved_edge (point points)) t
   own_edges [] h = refl
@@ -45,12 +48,12 @@ module _ (edges : List Edge) (points leads : List ℕ) (among : All (EdgeAmong (
     | no n ↦ (let e : point points p ≡ 0 = get_or-eq_default points 0 (omega arith) in rw (e) own_base)
   ]
 
-  module _ (room : length points * 58 ≤ length leads) (nothing : (i : ℕ) → get_or leads i 0 ≡ 0) where
-    nowhere : (p x : ℕ) → lead points leads p x ≡ None
+  module _ (room : length points * 58 ≤ length index) (nothing : (i : ℕ) → get_or index i 0 ≡ 0) where
+    nowhere : (p x : ℕ) → lead points index p x ≡ None
     unfolding lead
-    nowhere p x = ap (filed_point points) (nothing (place p x))
+    nowhere p x = ap (entry_point points) (nothing (place p x))
 
-    pub start_folding : Folding edges points leads
+    pub start_folding : FoldedSoFar edges points index
     start_folding =
         record {
           fits = record { few = few; room = room; low = own_low; filed_low = λ i. omega (arith, nothing i) };
@@ -61,32 +64,61 @@ module _ (edges : List Edge) (points leads : List ℕ) (among : All (EdgeAmong (
           sound = λ p x q l o h. absurd (none-some q (sym (nowhere p x) ∙ h));
         }
 
+-- an index of zeros has nothing filed
+pub zeros_empty : (n i : ℕ) → get_or {A = ℕ} (replicate n 0) i 0 ≡ 0
+zeros_empty n i = elim (dec_lt i n) [
+  | yes h ↦ get_or-replicate n i 0 0 h
+  | no h ↦ (let l : length (replicate {A = ℕ} n 0) ≤ i = omega (arith, length-replicate {A = ℕ} n 0) in get_or-eq_default (replicate {A = ℕ} n 0) 0 l)
+]
+
 -- the loops of words lie between the points that were counted
-loop_among : (w : List ℕ) → OfLetters w → (p n m : ℕ) → p < m → 1 ≤ m → n + (length w - 1) ≤ m → All (EdgeAmong m) (loop p n w)
+loop_among : (w : List ℕ) → AllLetters w → (p n m : ℕ) → p < m → 1 ≤ m → n + (length w - 1) ≤ m → All (EdgeAmong m) (loop p n w)
 loop_among [] l p n m a b c = All-nil (EdgeAmong m)
-loop_among (x ∷ []) l p n m a b c = All-cons (EdgeAmong m) (edge p x 0) [] (a, b, All-head (λ z. is_letter z ≡ true) x [] l) (All-nil (EdgeAmong m))
+loop_among (x ∷ []) l p n m a b c = All-cons (EdgeAmong m) (edge p x 0) [] (a, b, l.0) (All-nil (EdgeAmong m))
 loop_among (x ∷ y ∷ w) l p n m a b c =
-    All-cons (EdgeAmong m) (edge p x n) (loop n (suc n) (y ∷ w)) (a, omega arith, All-head (λ z. is_letter z ≡ true) x (y ∷ w) l)
-    (loop_among (y ∷ w) (All-tail (λ z. is_letter z ≡ true) x (y ∷ w) l) n (suc n) m (omega arith) b (omega arith))
+    All-cons (EdgeAmong m) (edge p x n) (loop n (suc n) (y ∷ w)) (a, omega arith, l.0)
+    (loop_among (y ∷ w) l.1 n (suc n) m (omega arith) b (omega arith))
 
 points-more : (n : ℕ) (S : List (List ℕ)) → n ≤ points_with_loops n S
 points-more n [] = omega arith
 points-more n (w ∷ S) = omega (arith, points-more (n + (length w - 1)) S)
 
-loops_among : (n : ℕ) (S : List (List ℕ)) → 1 ≤ n → AllOfLetters S → All (EdgeAmong (points_with_loops n S)) (loops n S)
-loops_among n [] a l = All-nil (EdgeAmong n)
-loops_among n (w ∷ S) a l =
+loops_among : (n m : ℕ) (S : List (List ℕ)) → 1 ≤ n → points_with_loops n S ≤ m → LetterWords S → All (EdgeAmong m) (loops n S)
+loops_among n m [] a b l = All-nil (EdgeAmong m)
+loops_among n m (w ∷ S) a b l =
     let more = points-more (n + (length w - 1)) S in
-    All-append (EdgeAmong (points_with_loops n (w ∷ S))) (loop 0 n w) (loops (n + (length w - 1)) S)
-    (loop_among w (l 0) 0 n (points_with_loops n (w ∷ S)) (omega arith) (omega arith) more)
-    (loops_among (n + (length w - 1)) S (omega arith) (λ k. l (suc k)))
+    All-append (EdgeAmong m) (loop 0 n w) (loops (n + (length w - 1)) S)
+    (loop_among w (l 0) 0 n m (omega arith) (omega arith) (omega (arith, more, b)))
+    (loops_among (n + (length w - 1)) m S (omega arith) b (λ k. l (suc k)))
 
-pub laid_among : (S : List (List ℕ)) {edges : List Edge} {n : ℕ} → AllOfLetters S → edges ≡ loops 1 S → n ≡ points_with_loops 1 S → All (EdgeAmong n) edges
-laid_among S l laid count = rw (laid, count) (loops_among 1 S (omega arith) l)
+pub laid_among : (S : List (List ℕ)) {edges : List Edge} {n : ℕ} → LetterWords S → edges ≡ loops 1 S → n ≡ points_with_loops 1 S → All (EdgeAmong n) edges
+laid_among S {n = n} l laid count = rw (laid) (loops_among 1 n S (omega arith) (omega (arith, count)) l)
+
+-- how many edges and points there are at most
+loop-length : (w : List ℕ) (p n : ℕ) → length (loop p n w) ≡ length w
+loop-length [] p n = refl
+loop-length (x ∷ []) p n = refl
+loop-length (x ∷ y ∷ w) p n = ap suc (loop-length (y ∷ w) n (suc n))
+
+loops-length : (n : ℕ) (S : List (List ℕ)) → AllShort S → length (loops n S) ≤ length S * 63
+loops-length n [] h = omega arith
+loops-length n (w ∷ S) h =
+    omega (arith, h 0, length-append (loop 0 n w) (loops (n + (length w - 1)) S), loop-length w 0 n, loops-length (n + (length w - 1)) S (λ k. h (suc k)))
+
+points-few : (n : ℕ) (S : List (List ℕ)) → AllShort S → points_with_loops n S ≤ n + length S * 62
+points-few n [] h = omega arith
+points-few n (w ∷ S) h = omega (arith, h 0, points-few (n + (length w - 1)) S (λ k. h (suc k)))
+
+module _ (S : List (List ℕ)) (few : length S ≤ 16) (short : AllShort S) where
+  pub edges_few : length (loops 1 S) ≤ 1008
+  edges_few = omega (arith, few, loops-length 1 S short)
+
+  pub edges_low : LetterWords S → All (EdgeAmong 993) (loops 1 S)
+  edges_low l = loops_among 1 993 S (omega arith) (omega (arith, few, points-few 1 S short)) l
 
 -- what is told by the folded loops of a system is told by its folded graph
 pub told_by_graph : (S : List (List ℕ)) {edges : List Edge} (w : List ℕ) {b : Bool} → FreelyReduced bytes S → edges ≡ loops 1 S → TracedIn edges w b
     → b ≡ member_by_graph bytes S w
 told_by_graph S {edges = edges} w h laid t =
     t.told ∙ traces_back-member_by_graph bytes byte_laws S t.graph
-    (record { folds = rw (freely_reduced-same bytes byte_laws S h, ← laid) t.folds; none_left = t.none_left }) w
+    (rw (freely_reduced-same bytes byte_laws S h, ← laid) t.folded) w

@@ -1,3 +1,3 @@
 pub mod Filing
-pub mod Folding
+pub mod Sweeps
 pub mod Loops

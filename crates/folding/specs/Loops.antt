@@ -1,16 +1,5 @@
--- The loops of a system in a table of edges: how many edges and points they take.
-use Rattle.std.specs.Prelude.{ℕ, ◌+◌, ◌-◌, ◌≡◌, cond, true, List, [], ◌∷◌, All, length, ltb}
-use Rattle.words.specs.Alphabet.{bytes}
-use Rattle.systems.specs.Products.{word}
-use Rattle.records.specs.Records.{is_letter}
-
--- a word of letters alone
-abbrev pub OfLetters : List ℕ → Type 0
-OfLetters w = All (λ x. is_letter x ≡ true) w
-
--- every word of a system is one
-abbrev pub AllOfLetters : List (List ℕ) → Type 0
-AllOfLetters S = (k : ℕ) → OfLetters (word bytes S k)
+-- The loops of a system in a table of edges: where their steps lead, and how many points they take.
+use Rattle.std.specs.Prelude.{ℕ, ◌+◌, ◌-◌, cond, List, [], ◌∷◌, length, ltb}
 
 -- the point to which the step along letter i of a word leads, over the new points n, n + 1 and on
 abbrev pub loop_point : List ℕ → ℕ → ℕ → ℕ

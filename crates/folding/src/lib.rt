@@ -1,4 +1,5 @@
-// The folded graph of a system: its loops are laid in a table of edges and folded, and a word is traced in it.
+// The folded graph of a system: its loops are laid in a table of edges and folded, and a word is traced. The table keeps the edges of the
+// loops; what they are folded to is kept beside it, in two arrays that last as long as a call.
 #![tactic(auto)]
 
 mod filing;
@@ -8,10 +9,11 @@ mod loops;
 ghost use Rattle.std.specs.Prelude.{◌<◌, ◌≤◌, ◌≡◌, ◌*◌, ℕ, All, get_or, length};
 ghost use Rattle.words.specs.Alphabet.{bytes};
 ghost use Rattle.words.specs.Words.{freely_reduce};
+ghost use Rattle.records.specs.Records.{AllLetters};
+ghost use Rattle.slots.specs.Systems.{LetterWords};
 ghost use Rattle.graphs.specs.Folding.{member_by_graph};
-ghost use Rattle.folding.specs.Filing.{Fits, traced};
-ghost use Rattle.folding.specs.Folding.{EdgeAmong, TracedIn};
-ghost use Rattle.folding.specs.Loops.{AllOfLetters, OfLetters};
+ghost use Rattle.folding.specs.Filing.{Fits, leads_back};
+ghost use Rattle.folding.specs.Sweeps.{EdgeAmong, TracedIn};
 
 use filing::{ROW, lead};
 use folds::fold;
@@ -25,60 +27,47 @@ const POINTS: usize = 993;
 // A row of places for each of them.
 const PLACES: usize = POINTS * ROW;
 
-// Most systems have no more points than these, and then fewer places have to be cleared.
+// The points of a short sheet. For so few points fewer places have to be cleared.
 const FEW_POINTS: usize = 256;
 
 const FEW_PLACES: usize = FEW_POINTS * ROW;
 
-// Whether the letters of a freely reduced word lead from the base back to the base in the folded graph of a system.
-pub fn traces_back(system: &System, word: &[u8], edges: &mut [Edge]) -> bool
-    requires system { AllOfLetters system.now }
-    requires letters { OfLetters word.now }
+// Whether a freely reduced word is a member of what a system generates, by the folded graph of the system.
+pub fn member_by_graph(system: &System, word: &[u8], edges: &mut [Edge]) -> bool
+    requires system { LetterWords system.now }
+    requires letters { AllLetters word.now }
     requires freely { freely_reduce bytes word.now ≡ word.now }
     requires room { 1008 ≤ length edges.old }
     ensures { result ≡ member_by_graph bytes system.now word.now }
 {
-    let (laid, count) = lay(system, edges);
+    let laid = lay(system, edges);
     let mut points = [0; POINTS];
-    let edges = &edges[..laid];
-    let points = &mut points[..count];
-    if count <= FEW_POINTS {
-        trace_with::<FEW_PLACES>(word, edges, points)
+    let edges = &edges[..laid.edges];
+    let points = &mut points[..laid.points];
+    if laid.points <= FEW_POINTS {
+        trace::<FEW_PLACES>(word, edges, points)
     } else {
-        trace_with::<PLACES>(word, edges, points)
+        trace::<PLACES>(word, edges, points)
     }
 }
 
-// The same for edges that are laid already, with room for so many places.
-fn trace_with<const ROOM: usize>(word: &[u8], edges: &[Edge], points: &mut [u16]) -> bool
+// Folds edges, and traces a word in the graph that they are folded to, with room for so many places in the index.
+fn trace<const ROOM: usize>(word: &[u8], edges: &[Edge], points: &mut [u16]) -> bool
     requires points { (0 < length points.old) × (length points.old ≤ 993) }
     requires room { (length points.old * 58 ≤ ROOM) × (ROOM ≤ 57594) }
     requires edges { All (EdgeAmong (length points.old)) edges.now }
-    requires letters { OfLetters word.now }
+    requires letters { AllLetters word.now }
     requires freely { freely_reduce bytes word.now ≡ word.now }
     ensures { TracedIn edges.now word.now result }
 {
-    let mut leads = [0; ROOM];
-    fold_and_trace(word, edges, points, &mut leads)
+    let mut index = [0; ROOM];
+    number_points(points);
+    fold(edges, points, &mut index);
+    leads_back(word, points, &index)
 }
 
-// The same with places at which nothing is filed.
-fn fold_and_trace(word: &[u8], edges: &[Edge], points: &mut [u16], leads: &mut [u16]) -> bool
-    requires points { (0 < length points.old) × (length points.old ≤ 993) }
-    requires room { length points.old * 58 ≤ length leads.old }
-    requires empty { (i : ℕ) → get_or leads.old i 0 ≡ 0 }
-    requires edges { All (EdgeAmong (length points.old)) edges.now }
-    requires letters { OfLetters word.now }
-    requires freely { freely_reduce bytes word.now ≡ word.now }
-    ensures { TracedIn edges.now word.now result }
-{
-    number(points);
-    fold(edges, points, leads);
-    leads_back(word, points, leads)
-}
-
-// Lets each point be what it is.
-fn number(points: &mut [u16])
+// Lets each point be itself.
+fn number_points(points: &mut [u16])
     requires { length points.old ≤ 993 }
     ensures { (p : ℕ) → p < length points.new → get_or points.new p 0 ≡ p }
 {
@@ -88,15 +77,15 @@ fn number(points: &mut [u16])
 }
 
 // Whether the letters of a word lead from the base back to the base.
-fn leads_back(word: &[u8], points: &[u16], leads: &[u16]) -> bool
-    requires fits { Fits points.now leads.now }
+fn leads_back(word: &[u8], points: &[u16], index: &[u16]) -> bool
+    requires fits { Fits points.now index.now }
     requires base { 0 < length points.now }
-    requires letters { OfLetters word.now }
-    ensures { result ≡ traced points.now leads.now 0 word.now }
+    requires letters { AllLetters word.now }
+    ensures { result ≡ leads_back points.now index.now word.now }
 {
     let mut here = 0;
     for letter in word {
-        let Some(next) = lead(points, leads, here, u16::from(*letter)) else {
+        let Some(next) = lead(points, index, here, u16::from(*letter)) else {
             return false;
         };
         here = next;

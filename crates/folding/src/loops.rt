@@ -1,4 +1,5 @@
-// The loops of a system, laid in a table of edges.
+// The loops of a system, laid in a table of edges: each word that is not empty is a path of edges from the base, over new points, back to the
+// base.
 ghost use Rattle.std.specs.Prelude.{◌+◌, ◌<◌, ◌≤◌, ◌≡◌, length, take};
 ghost use Rattle.words.specs.Alphabet.{bytes};
 ghost use Rattle.systems.specs.Products.{FreelyReduced};
@@ -8,13 +9,20 @@ ghost use Rattle.folding.specs.Loops.{loop_point, points_with_loops};
 use graphs::Edge;
 use slots::system::System;
 
-// The point to which the step along a letter of a word leads: a new one, or the base after the last letter.
-fn point_after(word: &[u8], first: usize, letter: usize) -> u16
-    requires { (letter < length word.now) × (first + letter < 65536) }
-    ensures { result ≡ loop_point word.now first letter }
+// How many edges were laid, and how many points they have.
+#[derive(Clone, Copy, Debug, PartialEq, Eq)]
+pub struct Laid {
+    pub edges: usize,
+    pub points: usize,
+}
+
+// The point to which the step along the letter at a place of a word leads: a new one, or the base after the last letter.
+fn point_after(word: &[u8], first: usize, at: usize) -> u16
+    requires { (at < length word.now) × (first + at < 65536) }
+    ensures { result ≡ loop_point word.now first at }
 {
-    if letter + 1 < word.len() {
-        (first + letter) as u16
+    if at + 1 < word.len() {
+        (first + at) as u16
     } else {
         0
     }
@@ -27,26 +35,25 @@ fn lay_loop(word: &[u8], first: usize, edges: &mut [Edge])
     ensures { edges.new ≡ loop 0 first word.now }
 {
     let mut from = 0;
-    for letter in 0..word.len() {
-        let to = point_after(word, first, letter);
-        edges[letter] = Edge {
+    for at in 0..word.len() {
+        let to = point_after(word, first, at);
+        edges[at] = Edge {
             from,
-            letter: u16::from(word[letter]),
+            letter: u16::from(word[at]),
             to,
         };
         from = to;
     }
 }
 
-// Lays a loop for each word of a system, and answers how many edges and points they take.
-pub fn lay(system: &System, edges: &mut [Edge]) -> (usize, usize)
+// Lays a loop for each word of a system.
+pub fn lay(system: &System, edges: &mut [Edge]) -> Laid
     requires { 1008 ≤ length edges.old }
-    ensures edges { take result.0 edges.new ≡ loops 1 system.now }
-    ensures few_edges { result.0 ≤ 1008 }
-    ensures points { result.1 ≡ points_with_loops 1 system.now }
-    ensures few_points { (0 < result.1) × (result.1 ≤ 993) }
+    ensures edges { take result.edges edges.new ≡ loops 1 system.now }
+    ensures few_edges { result.edges ≤ 1008 }
+    ensures points { result.points ≡ points_with_loops 1 system.now }
+    ensures few_points { (0 < result.points) × (result.points ≤ 993) }
     ensures freely { FreelyReduced bytes system.now }
-    ensures room { length edges.new ≡ length edges.old }
 {
     let mut laid = 0;
     let mut points = 1;
@@ -57,5 +64,8 @@ pub fn lay(system: &System, edges: &mut [Edge]) -> (usize, usize)
         laid = end;
         points += word.len().saturating_sub(1);
     }
-    (laid, points)
+    Laid {
+        edges: laid,
+        points,
+    }
 }

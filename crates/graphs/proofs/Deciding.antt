@@ -1,15 +1,13 @@
 -- Stallings' theorem: in a folded graph of a system, however it was folded, a freely reduced word is that of a path from base to base exactly
 -- when the system generates it. So tracing decides what is generated, and all folded graphs of a system say the same.
 use Prim.Native.Nat.{ℕ, suc}
-use mathlib.Core.Path.{◌≡◌, refl, sym, ap, ap₂, ◌∙◌}
+use mathlib.Core.Path.{◌≡◌, refl, sym, ap₂}
 use mathlib.Core.Logic.{◌↔◌}
 use mathlib.Core.Bool.{Bool, true, false}
 use mathlib.Core.List.{List, [], ◌∷◌, ◌++◌, append-nil, append_assoc, map}
 use native.Mathlib.Decide.{dec_lt}
 use native.Mathlib.Omega.{arith}
 use lib.ListN.{get_or-eq_default, length}
-use Rattle.std.specs.Prelude.{Contains, None, Some, eqb}
-use Rattle.std.proofs.lemmas.List.{get_or_default}
 use Rattle.std.proofs.lemmas.List.Elements.{Contains-get_or}
 use Rattle.words.specs.Alphabet.{Alphabet}
 use Rattle.words.specs.Words.{freely_reduce}
@@ -17,29 +15,18 @@ use Rattle.words.proofs.Alphabet.{AlphabetLaws}
 use Rattle.words.proofs.FreeReduction.{freely_reduce_twice}
 use Rattle.systems.specs.Products.{Generated, spelled, value, word}
 use Rattle.systems.specs.declared.Factor.{Factor}
-use Rattle.systems.proofs.Equivalence.{freely_reduced-same, generated, reduced-multiplied, words-freely_reduced}
+use Rattle.systems.proofs.Equivalence.{freely_reduced-same, reduced-multiplied, words-freely_reduced}
 use Rattle.graphs.specs.declared.Edge.{Edge}
-use Rattle.graphs.specs.Folding.{folded_graph, folded_within, member_by_graph, total, traces_back, walk}
+use Rattle.graphs.specs.Folding.{folded_graph, folded_within, is_base, leads, member_by_graph, total, traces_back, walk}
 use Rattle.graphs.specs.Graphs.{FoldedGraph, Path, loops}
-use Rattle.graphs.proofs.Clashes.{folded_graph_is}
-use Rattle.graphs.proofs.Contained.{contains_of_map}
-use Rattle.graphs.proofs.Cosets.{SameCoset, coset_generated, generated-same, same_coset_refl, same_coset_times, same_coset_trans}
+use Rattle.graphs.proofs.FirstFold.{folded_graph_is}
+use Rattle.systems.proofs.Cosets.{SameCoset, coset_generated, generated-same, same_coset_refl, same_coset_times, same_coset_trans, reduced_generated}
 use Rattle.graphs.proofs.Folds.{Marked, folds_marked, folds_path}
 use Rattle.graphs.proofs.Paths.{path-freely_reduce, path_append, path_inverse}
 use Rattle.graphs.proofs.Roses.{beginning, beginning_base, beginnings_marked, loops_path}
 use Rattle.graphs.proofs.Walks.{traces_back_path}
 
 module _ (G : Alphabet ℕ) (L : AlphabetLaws G) (S : List (List ℕ)) where
-  -- each word of a system is generated, and so it is freely reduced
-  word_generated : (w : List ℕ) → Contains S w → Generated G S w
-  word_generated w h = generated G L S w (record { slot = h.0; inverted = false } ∷ [])
-      (ap (freely_reduce G) (append-nil (word G S h.0) ∙ get_or_default S h.0 [] w h.1 ∙ h.2))
-
-  reduced_generated : (w : List ℕ) → Contains (map (freely_reduce G) S) w → Generated G S w
-  reduced_generated w h =
-      let r = contains_of_map (freely_reduce G) S w h in
-      generated-same G L S r.0 w (sym (freely_reduce_twice G L r.0) ∙ ap (freely_reduce G) r.2) (word_generated r.0 r.1)
-
   -- a path leads from the coset of a word to that of the word, then the letters of the path
   path_marked : (word_of : ℕ → List ℕ) (t : List Edge) → Marked G L S word_of t
       → (w : List ℕ) (p q : ℕ) → Path G t p w q → SameCoset G L S (word_of p ++ w) (word_of q)
@@ -53,7 +40,7 @@ module _ (G : Alphabet ℕ) (L : AlphabetLaws G) (S : List (List ℕ)) where
     -- what is traced back to the base is generated
     path_generated : (w : List ℕ) → Path G t 0 w 0 → Generated G S w
     path_generated w h = coset_generated G L S w
-        (rw (beginning_base ws) at (path_marked (beginning 1 ws) t (folds_marked G L S (beginning 1 ws) g.folds (beginnings_marked G L S ws reduced_generated)) w 0 0 h))
+        (rw (beginning_base ws) at (path_marked (beginning 1 ws) t (folds_marked G L S (beginning 1 ws) g.folds (beginnings_marked G L S ws (reduced_generated G L S))) w 0 0 h))
       where
         ws : List (List ℕ)
         ws = map (freely_reduce G) S
@@ -110,5 +97,5 @@ module _ (G : Alphabet ℕ) (L : AlphabetLaws G) (S : List (List ℕ)) where
   pub member_by_graph-freely_reduced : (w : List ℕ) → member_by_graph G (map (freely_reduce G) S) (freely_reduce G w) ≡ member_by_graph G S w
   unfolding traces_back
   member_by_graph-freely_reduced w =
-      ap₂ (λ (T : List (List ℕ)) (v : List ℕ). elim (walk G (folded_within G (suc (total (loops 1 T))) (loops 1 T)) 0 v) as (λ z. Bool) [ None ↦ false | Some q ↦ eqb q 0 ])
+      ap₂ (λ (T : List (List ℕ)) (v : List ℕ). is_base (walk (leads G (folded_within G (suc (total (loops 1 T))) (loops 1 T))) 0 v))
       (freely_reduced-same G L (map (freely_reduce G) S) (words-freely_reduced G L S)) (freely_reduce_twice G L w)

@@ -15,8 +15,8 @@ use Rattle.words.proofs.FreeReduction.{freely_reduce_pair_flip}
 use Rattle.graphs.specs.declared.Edge.{Edge}
 use Rattle.graphs.specs.Folding.{total}
 use Rattle.graphs.specs.Graphs.{Fold, Folds, Path, Step, edge, joined, more, moved_edge, none as no_fold}
-use Rattle.graphs.proofs.Contained.{contains-cons_cases, contains-nil}
-use Rattle.graphs.proofs.Cosets.{SameCoset, same_coset-freely_reduce, same_coset_refl, same_coset_sym, same_coset_times, same_coset_trans}
+use Rattle.words.proofs.Contained.{contains-cons_cases, contains-nil}
+use Rattle.systems.proofs.Cosets.{SameCoset, same_coset-freely_reduce, same_coset_refl, same_coset_sym, same_coset_times, same_coset_trans}
 use Rattle.graphs.proofs.Joined.{joined-le, joined_base, joined_cases, joined_larger}
 use Rattle.graphs.proofs.Paths.{path_moved}
 use Rattle.graphs.proofs.Steps.{step_cases, step_of_moved}

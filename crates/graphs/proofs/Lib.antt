@@ -1,10 +1,8 @@
-pub mod Contained
 pub mod Joined
-pub mod Cosets
 pub mod Steps
 pub mod Paths
 pub mod Folds
 pub mod Walks
-pub mod Clashes
+pub mod FirstFold
 pub mod Roses
 pub mod Deciding

@@ -1,4 +1,4 @@
--- Paths in graphs: joined, turned round, freely reduced where no fold is left, and taken along with the points.
+-- Paths in graphs: put together, turned round, freely reduced where no fold is left, and taken along with the points.
 use Prim.Native.Nat.{ℕ}
 use mathlib.Core.Path.{◌≡◌, refl, sym, ap}
 use mathlib.Core.List.{List, [], ◌∷◌, ◌++◌, map}

@@ -16,8 +16,8 @@ use Rattle.words.proofs.Alphabet.{AlphabetLaws}
 use Rattle.systems.specs.Products.{Generated}
 use Rattle.graphs.specs.declared.Edge.{Edge}
 use Rattle.graphs.specs.Graphs.{Path, edge, loop, loops}
-use Rattle.graphs.proofs.Contained.{contains-cons_cases, contains-nil, contains_head, contains_tail}
-use Rattle.graphs.proofs.Cosets.{SameCoset, generated_coset, same_coset_refl}
+use Rattle.words.proofs.Contained.{contains-cons_cases, contains-nil, contains_head, contains_tail}
+use Rattle.systems.proofs.Cosets.{SameCoset, generated_coset, same_coset_refl}
 use Rattle.graphs.proofs.Folds.{Marked, marked_edges}
 use Rattle.graphs.proofs.Paths.{path_within}
 use Rattle.graphs.proofs.Steps.{step_edge}

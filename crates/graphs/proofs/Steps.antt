@@ -9,7 +9,7 @@ use Rattle.words.specs.Alphabet.{Alphabet}
 use Rattle.words.proofs.Alphabet.{AlphabetLaws}
 use Rattle.graphs.specs.declared.Edge.{Edge}
 use Rattle.graphs.specs.Graphs.{Step, back, edge, moved_edge}
-use Rattle.graphs.proofs.Contained.{contains-map, contains_of_map}
+use Rattle.words.proofs.Contained.{contains-map, contains_of_map}
 
 module _ (G : Alphabet ℕ) (L : AlphabetLaws G) where
   open G use {flip}

@@ -1,4 +1,4 @@
--- The walk along a graph finds a path where there is one, and in a graph in which no fold is left that is the only one.
+-- Where the walk along a graph ends, a path leads there; and where no fold is left, it ends wherever a path leads.
 use Prim.Native.Nat.{ℕ}
 use mathlib.Core.Path.{◌≡◌, refl, sym, ap, ◌∙◌}
 use mathlib.Core.Logic.{◌↔◌, ◌⊎◌, inl, inr}
@@ -12,9 +12,24 @@ use Rattle.words.specs.Alphabet.{Alphabet}
 use Rattle.words.specs.Words.{freely_reduce}
 use Rattle.words.proofs.Alphabet.{AlphabetLaws, same_yes}
 use Rattle.graphs.specs.declared.Edge.{Edge}
-use Rattle.graphs.specs.Folding.{first_to, leads, traces_back, walk}
+use Rattle.graphs.specs.Folding.{first_to, is_base, leads, traces_back, walk}
 use Rattle.graphs.specs.Graphs.{NoneLeft, Path, Step, edge, steps}
-use Rattle.graphs.proofs.Contained.{contains-cons_cases, contains-nil, contains_head, contains_tail}
+use Rattle.words.proofs.Contained.{contains-cons_cases, contains-nil, contains_head, contains_tail}
+
+-- a walk, letter by letter
+module _ (to : ℕ → ℕ → Option ℕ) (p : ℕ) where
+  pub walk-nil : walk to p [] ≡ Some p
+  unfolding walk
+  walk-nil = refl
+
+  module _ (x : ℕ) (w : List ℕ) where
+    pub walk-cons : {q : ℕ} → to p x ≡ Some q → walk to p (x ∷ w) ≡ walk to q w
+    unfolding walk
+    walk-cons e = ap (λ (o : Option ℕ). elim o as (λ z. Option ℕ) [ None ↦ None | Some q ↦ walk to q w ]) e
+
+    pub walk-stops : to p x ≡ None → walk to p (x ∷ w) ≡ None
+    unfolding walk
+    walk-stops e = ap (λ (o : Option ℕ). elim o as (λ z. Option ℕ) [ None ↦ None | Some q ↦ walk to q w ]) e
 
 module _ (G : Alphabet ℕ) (L : AlphabetLaws G) where
   open G use {same}
@@ -60,26 +75,25 @@ module _ (G : Alphabet ℕ) (L : AlphabetLaws G) where
       let r = first_to_there (steps G t) p x q s in
       r.1 ∙ ap (λ (z : ℕ). Some z) (n p x r.0 q (leads_sound t p x r.0 r.1) s)
 
-  walk_sound : (t : List Edge) (w : List ℕ) (p q : ℕ) → walk G t p w ≡ Some q → Path G t p w q
+  walk_sound : (t : List Edge) (w : List ℕ) (p q : ℕ) → walk (leads G t) p w ≡ Some q → Path G t p w q
   unfolding walk
   walk_sound t [] p q h = same_Some p q h
   walk_sound t (x ∷ w) p q h = go (leads G t p x) refl h (walk_sound t w)
     where
-      go : (o : Option ℕ) → leads G t p x ≡ o → (elim o as (λ z. Option ℕ) [ None ↦ None | Some m ↦ walk G t m w ]) ≡ Some q
-          → ((m q : ℕ) → walk G t m w ≡ Some q → Path G t m w q) → Path G t p (x ∷ w) q
+      go : (o : Option ℕ) → leads G t p x ≡ o → (elim o as (λ z. Option ℕ) [ None ↦ None | Some m ↦ walk (leads G t) m w ]) ≡ Some q
+          → ((m q : ℕ) → walk (leads G t) m w ≡ Some q → Path G t m w q) → Path G t p (x ∷ w) q
       go None e k ih = absurd (none-some q k)
       go (Some m) e k ih = (m, leads_sound t p x m e, ih m q k)
 
-  walk_path : (t : List Edge) → NoneLeft G t → (w : List ℕ) (p q : ℕ) → Path G t p w q → walk G t p w ≡ Some q
-  unfolding walk
-  walk_path t n [] p q h = ap (λ (z : ℕ). Some z) h
-  walk_path t n (x ∷ w) p q h = rw (leads_step t n p x h.0 h.1, walk) (walk_path t n w h.0 q h.2)
+  walk_path : (t : List Edge) → NoneLeft G t → (w : List ℕ) (p q : ℕ) → Path G t p w q → walk (leads G t) p w ≡ Some q
+  walk_path t n [] p q h = walk-nil (leads G t) p ∙ ap (λ (z : ℕ). Some z) h
+  walk_path t n (x ∷ w) p q h = walk-cons (leads G t) p x w (leads_step t n p x h.0 h.1) ∙ walk_path t n w h.0 q h.2
 
   pub traces_back_path : (t : List Edge) → NoneLeft G t → (w : List ℕ) → (traces_back G t w ≡ true) ↔ Path G t 0 (freely_reduce G w) 0
   unfolding traces_back
-  traces_back_path t n w = (go (walk G t 0 (freely_reduce G w)) refl, λ h. rw (walk_path t n (freely_reduce G w) 0 0 h, traces_back) refl)
+  traces_back_path t n w =
+      (go (walk (leads G t) 0 (freely_reduce G w)) refl, λ h. ap is_base (walk_path t n (freely_reduce G w) 0 0 h))
     where
-      go : (o : Option ℕ) → walk G t 0 (freely_reduce G w) ≡ o → (elim o as (λ z. Bool) [ None ↦ false | Some q ↦ eqb q 0 ]) ≡ true
-          → Path G t 0 (freely_reduce G w) 0
+      go : (o : Option ℕ) → walk (leads G t) 0 (freely_reduce G w) ≡ o → is_base o ≡ true → Path G t 0 (freely_reduce G w) 0
       go None e h = absurd (true≢false (sym h))
       go (Some q) e h = walk_sound t (freely_reduce G w) 0 0 (e ∙ ap (λ (z : ℕ). Some z) (eqb-true q 0 h))

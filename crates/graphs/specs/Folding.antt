@@ -1,13 +1,23 @@
--- The folded graph of a system as a function, and the walk along a graph.
+-- A folded graph of a system as a function, and the walk that traces a word.
 use Rattle.std.specs.Prelude.{ℕ, zero, suc, ◌+◌, Bool, false, cond, ◌&&◌, List, [], ◌∷◌, None, Option, Some, eqb, map, sum_by}
 use Rattle.words.specs.Alphabet.{Alphabet}
 use Rattle.words.specs.Words.{freely_reduce}
-use Rattle.graphs.specs.Graphs.{joined, moved_edge, rose, steps}
+use Rattle.graphs.specs.Graphs.{joined, moved_edge, loops_of, steps}
 use Rattle.graphs.specs.declared.Edge.{Edge}
 
 -- the sum of the points' numbers over the ends of all edges: each fold makes it smaller
 abbrev pub total : List Edge → ℕ
 total t = sum_by (λ e. e.from + e.to) t
+
+-- the point to which the letters of a word lead from p, where each letter leads as `to` says
+unfoldable pub walk : (ℕ → ℕ → Option ℕ) → ℕ → List ℕ → Option ℕ
+walk to p [] = Some p
+walk to p (x ∷ w) = elim (to p x) [ None ↦ None | Some q ↦ walk to q w ]
+
+-- whether it is the base
+abbrev pub is_base : Option ℕ → Bool
+is_base None = false
+is_base (Some q) = eqb q 0
 
 module _ (G : Alphabet ℕ) where
   open G use {same}
@@ -21,33 +31,30 @@ module _ (G : Alphabet ℕ) where
   abbrev pub leads : List Edge → ℕ → ℕ → Option ℕ
   leads t p x = first_to (steps G t) p x
 
-  -- the point to which the letters of w lead from p
-  unfoldable pub walk : List Edge → ℕ → List ℕ → Option ℕ
-  walk t p [] = Some p
-  walk t p (x ∷ w) = elim (leads t p x) [ None ↦ None | Some q ↦ walk t q w ]
-
   -- "its freely reduced letters trace a path from the base back to the base"
   unfoldable pub traces_back : List Edge → List ℕ → Bool
-  traces_back t w = elim (walk t 0 (freely_reduce G w)) [ None ↦ false | Some q ↦ eqb q 0 ]
+  traces_back t w = is_base (walk (leads t) 0 (freely_reduce G w))
 
-  -- among some steps of t the first that leads elsewhere than the first step from its point by its letter, and the two points
-  unfoldable pub first_clash : List Edge → List Edge → Option (ℕ × ℕ)
-  first_clash t [] = None
-  first_clash t (e ∷ s) = elim (leads t e.from e.letter) [
-    | None ↦ first_clash t s
-    | Some q ↦ cond (eqb q e.to) (first_clash t s) (Some (q, e.to))
+  -- the two points that the first fold makes one: among some steps of t the first that leads elsewhere than the first step from its point by its
+  -- letter
+  unfoldable pub first_fold : List Edge → List Edge → Option (ℕ × ℕ)
+  first_fold t [] = None
+  first_fold t (e ∷ s) = elim (leads t e.from e.letter) [
+    | None ↦ first_fold t s
+    | Some q ↦ cond (eqb q e.to) (first_fold t s) (Some (q, e.to))
   ]
 
   -- "folded together until none are left", at most n times
   unfoldable pub folded_within : ℕ → List Edge → List Edge
   folded_within zero t = t
-  folded_within (suc n) t = elim (first_clash t (steps G t)) [
+  folded_within (suc n) t = elim (first_fold t (steps G t)) [
     | None ↦ t
     | Some c ↦ folded_within n (map (moved_edge (joined c.0 c.1)) t)
   ]
 
+  -- the loops of a system, folded as often as there is a fold; `folded_graph_is` says that none is left then
   abbrev pub folded_graph : List (List ℕ) → List Edge
-  folded_graph S = folded_within (suc (total (rose G S))) (rose G S)
+  folded_graph S = folded_within (suc (total (loops_of G S))) (loops_of G S)
 
   -- "A target is a member when its freely reduced letters trace a path from the base back to the base."
   abbrev pub member_by_graph : List (List ℕ) → List ℕ → Bool

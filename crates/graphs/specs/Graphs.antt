@@ -34,7 +34,8 @@ module _ (G : Alphabet ℕ) where
   abbrev pub back : Edge → Edge
   back e = edge e.to (flip e.letter) e.from
 
-  -- the steps in a graph: along each edge, and backward along each
+  -- the steps in a graph: along each edge, and backward along each. So an edge that enters a point is a step that leaves it, by the inverse
+  -- letter, and an edge with a capital is one with its small letter the other way round.
   abbrev pub steps : List Edge → List Edge
   steps t = t ++ map back t
 
@@ -64,15 +65,19 @@ module _ (G : Alphabet ℕ) where
     none : {s t : List Edge} → s ≡ t → Folds s t
     more : {s t r : List Edge} → Fold s t → Folds t r → Folds s r
 
-  -- "until none are left": from no point do two steps by one letter lead to two points
+  -- none is left to fold: from no point do two steps by one letter lead to two points
   abbrev pub NoneLeft : List Edge → Type 0
   NoneLeft t = (p x q r : ℕ) → Step t p x q → Step t p x r → q ≡ r
 
-  -- "Each word that isn't empty after free reduction is a loop at a base point"
-  abbrev pub rose : List (List ℕ) → List Edge
-  rose S = loops 1 (map (freely_reduce G) S)
-
-  -- t is a folded graph of the system: its loops folded together, in whatever order, until none are left
-  pub record FoldedGraph (S : List (List ℕ)) (t : List Edge) : Type 0 where
-    pub folds : Folds (rose S) t
+  -- t comes of s where edges "are folded together until none are left", in whatever order
+  pub record FoldedFrom (s t : List Edge) : Type 0 where
+    pub folds : Folds s t
     pub none_left : NoneLeft t
+
+  -- "Each word that isn't empty after free reduction is a loop at a base point"
+  abbrev pub loops_of : List (List ℕ) → List Edge
+  loops_of S = loops 1 (map (freely_reduce G) S)
+
+  -- a folded graph of a system
+  abbrev pub FoldedGraph : List (List ℕ) → List Edge → Type 0
+  FoldedGraph S t = FoldedFrom (loops_of S) t

@@ -13,7 +13,7 @@ use Rattle.std.proofs.lemmas.List.{replicate_more}
 use Rattle.std.proofs.lemmas.List.Sums.{take_while-cons}
 use Rattle.std.specs.List.{flat_map, prefix_len, take_while}
 use Rattle.std.specs.Prelude.{Ok}
-use Rattle.words.proofs.Mapping.{Each, each_append}
+use Rattle.words.proofs.Mapping.{each_append}
 use Rattle.records.specs.Refusals.{must}
 use Rattle.records.specs.declared.refusals.Reason.{Reason}
 use Rattle.records.specs.declared.refusals.Reason.TheVariants.{NumbersMalformed, NumberWithoutLetter}
@@ -22,6 +22,7 @@ use Rattle.numbers.specs.Numbers.{within_26, is_number}
 use Rattle.numbers.specs.Records.{is_zero, number_bytes, numbers_in, numbers_record, numbers_word}
 use Rattle.numbers.specs.Refusals.{each_number, layout_rule, within_26_rule, numbers_rules}
 use Rattle.numbers.proofs.Records.{numbers-length}
+use Rattle.words.specs.Words.{Each}
 
 -- words of numbers that may stand in a record, and those of which each has a letter
 abbrev pub AllNumbers : List ℕ → Type 0

@@ -13,19 +13,19 @@ use Rattle.std.proofs.Common.{length-take, length-take-le}
 use Rattle.std.proofs.lemmas.List.{get_or-drop, get_or-map}
 use Rattle.std.specs.Prelude.{Ok}
 use Rattle.words.specs.Alphabet.{bytes}
-use Rattle.words.specs.Words.{freely_reduce}
+use Rattle.words.specs.Words.{Each, freely_reduce}
 use Rattle.words.proofs.Alphabet.{byte_laws}
 use Rattle.words.proofs.Below.{below_at, below_each, below_length}
-use Rattle.words.proofs.Mapping.{Each, each_at, each_both, each_from, each_map, map-freely_reduce, map_back, each_freely_reduce}
+use Rattle.words.proofs.Mapping.{each_at, each_both, each_from, each_map, map-freely_reduce, map_back, each_freely_reduce}
 use Rattle.words.proofs.Parts.{Sized, part_at, parts_back, parts-length}
-use Rattle.records.specs.Records.{is_letter}
+use Rattle.records.specs.Records.{AllLetters, is_letter}
 use Rattle.records.specs.Refusals.{each_below, must}
 use Rattle.records.specs.declared.refusals.Reason.TheVariants.{SystemTooLong, SystemUneven}
 use Rattle.records.proofs.Chains.{each_passed, each_passes, fine_first, fine_next, must_fine}
-use Rattle.records.proofs.RoundTrip.{AllLetters, letter-flip}
+use Rattle.records.proofs.RoundTrip.{letter-flip}
 use Rattle.slots.specs.Refusals.{system_rules}
-use Rattle.slots.specs.Systems.{AllShort, bytes_of, freely_reduced_words, slots, system_of, word_at}
-use Rattle.slots.proofs.RoundTrip.{system-word, word_written, LetterWords, reduced-short, reduced_letters, system-length, system-short, system_back, system_letters, system_passes, system_same, bytes_of-length}
+use Rattle.slots.specs.Systems.{AllShort, LetterWords, bytes_of, freely_reduced_words, slots, system_of, word_at}
+use Rattle.slots.proofs.RoundTrip.{system-word, word_written, reduced-short, reduced_letters, system-length, system-short, system_back, system_letters, system_passes, system_same, bytes_of-length}
 use Rattle.slots.proofs.Systems.{system-few}
 use Rattle.numbers.specs.Calls.{as_letters, as_numbers, tidied_numbers}
 use Rattle.numbers.specs.Numbers.{within_26, is_number, number_letter, letter_number, signed_numbers}

@@ -15,18 +15,14 @@ use borrow.Author.Tests.{eqb-true, eq-eqb, lt-ltb, ltb-true, ne_eqb}
 use Rattle.words.specs.Alphabet.{bytes, flip_byte}
 use Rattle.words.specs.Words.{freely_reduce, inverse}
 use Rattle.words.proofs.Alphabet.{byte_laws, flip_down, flip_up}
-use Rattle.words.proofs.Mapping.{Each, each_append, each_freely_reduce, each_inverse}
-use Rattle.records.specs.Records.{before_stop, blanks, is_letter, is_letter_or_stop, is_stop, not_letter, record_of, word_of}
+use Rattle.words.proofs.Mapping.{each_append, each_freely_reduce, each_inverse}
+use Rattle.records.specs.Records.{AllLetters, before_stop, blanks, is_letter, is_letter_or_stop, is_stop, not_letter, record_of, word_of}
 use Rattle.records.specs.Refusals.{Checked, as_six, each_byte, byte_rule, end_rule, letters_rule, must, order_rule, record_rules, target_rules}
 use Rattle.records.proofs.ByNumber.{fine_never}
 use Rattle.records.proofs.Chains.{fine_first, fine_next, must_fine}
 use Rattle.records.proofs.Rules.{letter_above, letter-below, letter_between, letter_left, letter_passed}
 use Rattle.records.specs.declared.refusals.Reason.TheVariants.{LetterAfterStop, NeitherLetterNorStop, NoLineFeed, TargetOrProductMalformed}
 use Rattle.std.specs.Prelude.{Err, Ok}
-
--- a word of letters alone
-abbrev pub AllLetters : List ℕ → Type 0
-AllLetters w = Each (λ b. is_letter b ≡ true) w
 
 -- where a letter stands among the bytes
 pub letter_low : (b : ℕ) → is_letter b ≡ true → 65 ≤ b

@@ -1,9 +1,14 @@
 -- One record, as a list of bytes: the word in it, and the bytes that hold a given word.
-use Rattle.std.specs.Prelude.{◌-◌, ℕ, Bool, ◌&&◌, ◌||◌, cond, not, List, [], ◌++◌, ◌∷◌, eqb, leb, length, replicate, take}
+use Rattle.std.specs.Prelude.{◌-◌, ◌≡◌, ℕ, Bool, true, ◌&&◌, ◌||◌, cond, not, List, [], ◌++◌, ◌∷◌, eqb, leb, length, replicate, take}
+use Rattle.words.specs.Words.{Each}
 
 -- "A generator is one of a to z; its inverse is the capital."
 abbrev pub is_letter : ℕ → Bool
 is_letter b = leb 65 b && leb b 90 || leb 97 b && leb b 122
+
+-- a word of letters alone
+abbrev pub AllLetters : List ℕ → Type 0
+AllLetters w = Each (λ b. is_letter b ≡ true) w
 
 -- a full stop, 0x2E
 abbrev pub is_stop : ℕ → Bool

@@ -32,8 +32,8 @@ use Rattle.records.specs.declared.answers.Verdict.{Verdict}
 use Rattle.records.specs.declared.answers.Verdict.TheVariants.{Done}
 use Rattle.records.proofs.Chains.{answered, fine_first, fine_next, must_fine}
 use Rattle.slots.specs.Refusals.{system_room, system_rules}
-use Rattle.slots.specs.Systems.{AllShort, bytes_of, freely_reduced_words, slots, system_of}
-use Rattle.slots.proofs.RoundTrip.{LetterWords, bytes_of-length, bytes_of-slots, reduced_letters, reduced-short, system_back, system_passes, words-length}
+use Rattle.slots.specs.Systems.{AllShort, LetterWords, bytes_of, freely_reduced_words, slots, system_of}
+use Rattle.slots.proofs.RoundTrip.{bytes_of-length, bytes_of-slots, reduced_letters, reduced-short, system_back, system_passes, words-length}
 use Rattle.slots.proofs.Systems.{loaded_freely_reduced, room_fits, system-few}
 use Rattle.moves.specs.Logs.{log_of, log_rules, move_size}
 use Rattle.moves.proofs.LogBack.{AllBetween, log_of-length, log_of-moves, log_of_passes, valid_between}

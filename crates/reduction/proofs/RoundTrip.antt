@@ -9,8 +9,9 @@ use Rattle.systems.specs.declared.Move.{Move}
 use Rattle.systems.specs.declared.Form.TheVariants.{After, Before, InverseAfter, InverseBefore}
 use Rattle.systems.specs.Products.{word}
 use Rattle.systems.proofs.Undoing.{set_holds}
-use Rattle.records.proofs.RoundTrip.{AllLetters, letters_append, letters_inverse, letters_reduce}
-use Rattle.slots.proofs.RoundTrip.{LetterWords}
+use Rattle.records.proofs.RoundTrip.{letters_append, letters_inverse, letters_reduce}
+use Rattle.records.specs.Records.{AllLetters}
+use Rattle.slots.specs.Systems.{LetterWords}
 
 -- moves of words of letters
 letters_formed : (form : Form) (wi wk : List ℕ) → AllLetters wi → AllLetters wk → AllLetters (formed bytes form wi wk)

@@ -18,7 +18,7 @@ use Rattle.text.specs.Write.{write_rules}
 use Rattle.numbers.specs.Calls.{as_letters, as_numbers, tidied_numbers}
 use Rattle.numbers.specs.Numbers.{flip_number, letter_number, number_letter}
 use Rattle.numbers.specs.Refusals.{letters_room, numbers_room, numbers_rules, numbers_system_rules}
-use Rattle.graphs.specs.Folding.{first_clash, first_to, folded_within, traces_back, walk}
+use Rattle.graphs.specs.Folding.{first_fold, first_to, folded_within, traces_back, walk}
 use Rattle.tracing.specs.Tracing.{trace_tests}
 use Rattle.lines.specs.Lines.{first_line, refusal_line}
 use Rattle.output.specs.Output.{answer_output, input_rules, program_log, program_product, program_output, program_words}
@@ -31,7 +31,7 @@ infixr 20 ◌and◌
 a and b = (a, b)
 
 pub sheets_hold : EachSays sheets
-unfolding flip_byte inverse tree_of text_rules shape_rule fits text_word read_tests read_rules write_rules text_of shortening half_end next leading record_rules letters_rule system_rules word_room freely_reduced_words system_room target_rules question_rules ready_rules member_tests flip_number letter_number number_letter numbers_rules letters_room numbers_system_rules numbers_room as_numbers as_letters tidied_numbers first_to walk traces_back first_clash folded_within trace_tests decimal refusal_line first_line input_rules program_words program_log program_product answer_output program_output
+unfolding flip_byte inverse tree_of text_rules shape_rule fits text_word read_tests read_rules write_rules text_of shortening half_end next leading record_rules letters_rule system_rules word_room freely_reduced_words system_room target_rules question_rules ready_rules member_tests flip_number letter_number number_letter numbers_rules letters_room numbers_system_rules numbers_room as_numbers as_letters tidied_numbers first_to walk traces_back first_fold folded_within trace_tests decimal refusal_line first_line input_rules program_words program_log program_product answer_output program_output
 sheets_hold =
     (refl, refl)
     and (refl, refl)

@@ -8,9 +8,9 @@ use lib.ListN.{length, length-map}
 use borrow.Author.Tests.{le-ltb, lt-ltb}
 use Rattle.systems.specs.declared.Factor.{Factor}
 use Rattle.systems.proofs.ProductLaws.{Named}
-use Rattle.records.specs.Records.{is_letter, record_of}
+use Rattle.records.specs.Records.{AllLetters, is_letter, record_of}
 use Rattle.records.specs.Refusals.{target_rules}
-use Rattle.records.proofs.RoundTrip.{AllLetters, record_passes, word_back}
+use Rattle.records.proofs.RoundTrip.{record_passes, word_back}
 use Rattle.records.proofs.Rules.{letter_between}
 use Rattle.records.proofs.Targets.{target_passes}
 use Rattle.systems.specs.Factors.{factor_byte, factor_of}

@@ -13,20 +13,16 @@ use Rattle.words.proofs.Below.{below_each, below_at, below_length}
 use Rattle.systems.specs.Products.{word}
 use Rattle.systems.proofs.Equivalence.{reduced-word}
 use Rattle.systems.proofs.Runs.{reduced-within}
-use Rattle.records.specs.Records.{record_of, word_of}
+use Rattle.records.specs.Records.{AllLetters, record_of, word_of}
 use Rattle.records.specs.Refusals.{each_below}
 use Rattle.records.proofs.Chains.{each_passed, each_passes}
-use Rattle.records.proofs.RoundTrip.{AllLetters, letters_reduce, record_letters, record_passes, record_same, word_back, word-short}
+use Rattle.records.proofs.RoundTrip.{letters_reduce, record_letters, record_passes, record_same, word_back, word-short}
 use Rattle.slots.specs.Refusals.{slot_rules, system_rules}
-use Rattle.slots.specs.Systems.{AllShort, bytes_of, freely_reduced_words, record_at, slots, system_of, word_at}
+use Rattle.slots.specs.Systems.{AllShort, LetterWords, bytes_of, freely_reduced_words, record_at, slots, system_of, word_at}
 use Rattle.slots.proofs.Systems.{bytes_of-parts, records_passed, records_sized, system-even, system_records}
 use Rattle.words.proofs.Parts.{part_at, parts_back, parts-length}
 use Rattle.std.proofs.Common.{length-take-le}
 use Rattle.std.specs.Prelude.{Ok}
-
--- a system of words of letters alone
-abbrev pub LetterWords : List (List ℕ) → Type 0
-LetterWords S = (k : ℕ) → AllLetters (word bytes S k)
 
 pub system-length : (s : List ℕ) → length (system_of s) ≡ slots s
 system-length s = below_length (word_at s) (slots s)

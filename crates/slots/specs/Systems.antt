@@ -4,7 +4,7 @@ use Rattle.words.specs.Alphabet.{bytes}
 use Rattle.words.specs.Below.{below}
 use Rattle.words.specs.Words.{freely_reduce}
 use Rattle.systems.specs.Products.{word}
-use Rattle.records.specs.Records.{record_of, word_of}
+use Rattle.records.specs.Records.{AllLetters, record_of, word_of}
 
 -- the record in a slot, the slots counted from 0
 abbrev pub record_at : List ℕ → ℕ → List ℕ
@@ -34,3 +34,7 @@ freely_reduced_words s = map (freely_reduce bytes) (system_of s)
 -- every word of a system fits a record
 abbrev pub AllShort : List (List ℕ) → Type 0
 AllShort S = (k : ℕ) → length (word bytes S k) ≤ 63
+
+-- and every word is of letters alone
+abbrev pub LetterWords : List (List ℕ) → Type 0
+LetterWords S = (k : ℕ) → AllLetters (word bytes S k)

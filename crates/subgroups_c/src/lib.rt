@@ -258,7 +258,7 @@ pub extern "C" fn subgroups_tidy_numbers(numbers: &[u8], tidied: &mut [u8], answ
     *answer = told.numbers();
 }
 
-// Trace: the verdict on a target by the folded graph of a system, which is laid and folded in the table of edges.
+// Trace: the verdict on a target by the folded graph of a system, whose loops are laid in the table of edges.
 #[unsafe(no_mangle)]
 pub extern "C" fn subgroups_trace(
     system: &[u8],

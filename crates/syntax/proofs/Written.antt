@@ -14,8 +14,7 @@ use Rattle.words.specs.Words.{freely_reduce, signed}
 use Rattle.words.proofs.Alphabet.{byte_laws, flip_down}
 use Rattle.words.proofs.FreeReduction.{length-freely_reduce}
 use Rattle.words.proofs.Inverse.{inverse_singleton}
-use Rattle.records.specs.Records.{is_letter}
-use Rattle.records.proofs.RoundTrip.{AllLetters}
+use Rattle.records.specs.Records.{AllLetters, is_letter}
 use Rattle.syntax.specs.Trees.{Digits, Power, Product, ProperDigits, ProperPower, Spells, is_digit, letter, nothing, one, plain, raised, spelled, spelled_digits, spelled_minus, spelled_power, two}
 use Rattle.syntax.specs.TreeWords.{measured_after, number_of, powered, times, tree_word}
 use Rattle.syntax.specs.Within.{NestsWithin, PowerWithin, PowersWithin}

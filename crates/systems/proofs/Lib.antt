@@ -19,3 +19,4 @@ pub mod Unique
 pub mod Leading
 pub mod Membership
 pub mod Runs
+pub mod Cosets

@@ -14,12 +14,12 @@ use Rattle.words.proofs.Alphabet.{byte_laws}
 use Rattle.words.proofs.Buffers.{written-take}
 use Rattle.words.proofs.FreeReduction.{freely_reduce-same}
 use Rattle.records.specs.Answers.{answer_of}
-use Rattle.records.specs.Records.{record_of, word_of}
+use Rattle.records.specs.Records.{AllLetters, record_of, word_of}
 use Rattle.records.specs.Refusals.{as_six, must, record_rules, refusal, target_rules, Checked}
 use Rattle.records.specs.declared.answers.Verdict.TheVariants.{Done}
 use Rattle.records.proofs.ByNumber.{Never, fine_never, must-given, must_never, never_then, other_never, then_first, then_next}
 use Rattle.records.proofs.Chains.{fine_first, fine_next, verdict_done}
-use Rattle.records.proofs.RoundTrip.{AllLetters, target_letters, word-short}
+use Rattle.records.proofs.RoundTrip.{target_letters, word-short}
 use Rattle.slots.specs.Refusals.{word_room}
 use Rattle.slots.proofs.Systems.{room_enough, room_fits}
 use Rattle.syntax.specs.TreeWords.{tree_word}

@@ -1,35 +1,28 @@
 -- The call trace: what its tests tell once they are passed, and the verdict on the words that were taken in.
 use Prim.Native.Nat.{◌≤◌, ℕ}
-use mathlib.Core.List.{List, [], ◌∷◌}
+use mathlib.Core.List.{List}
 use mathlib.Core.Path.{◌∙◌, ◌≡◌, ap, ap₂, sym}
 use lib.Dec.{leb}
 use lib.ListN.{length}
 use borrow.Author.Tests.{leb-true}
-use Rattle.std.specs.Prelude.{Bool, Ok, true}
-use Rattle.std.proofs.lemmas.List.Elements.{All-cons, All-nil}
+use Rattle.std.specs.Prelude.{Bool, Ok}
 use Rattle.words.specs.Alphabet.{bytes}
 use Rattle.words.specs.Words.{freely_reduce}
 use Rattle.words.proofs.Alphabet.{byte_laws}
-use Rattle.systems.specs.Products.{word}
-use Rattle.records.specs.Records.{is_letter, word_of}
+use Rattle.records.specs.Records.{AllLetters, word_of}
 use Rattle.records.specs.Refusals.{Checked, target_rules}
 use Rattle.records.specs.declared.refusals.Reason.TheVariants.{EdgeTableShort}
 use Rattle.records.proofs.Chains.{fine_first, fine_next, must_fine}
-use Rattle.records.proofs.RoundTrip.{AllLetters, letters_reduce, target_letters}
+use Rattle.records.proofs.RoundTrip.{letters_reduce, target_letters}
 use Rattle.records.proofs.Targets.{target-sized}
 use Rattle.slots.specs.Refusals.{system_rules}
-use Rattle.slots.specs.Systems.{freely_reduced_words, system_of}
+use Rattle.slots.specs.Systems.{LetterWords, freely_reduced_words, system_of}
 use Rattle.slots.proofs.RoundTrip.{reduced_letters}
 use Rattle.slots.proofs.Systems.{system-size}
 use Rattle.graphs.specs.Folding.{member_by_graph}
 use Rattle.graphs.proofs.Deciding.{member_by_graph-freely_reduced}
-use Rattle.folding.specs.Loops.{AllOfLetters, OfLetters}
 use Rattle.asking.specs.Asking.{verdict_of}
 use Rattle.tracing.specs.Tracing.{trace_tests}
-
-of_letters : (w : List ℕ) → AllLetters w → OfLetters w
-of_letters [] a = All-nil (λ x. is_letter x ≡ true)
-of_letters (x ∷ w) a = All-cons (λ z. is_letter z ≡ true) x w a.0 (of_letters w a.1)
 
 -- what the tests tell once they are passed
 module _ (s t : List ℕ) (edges : ℕ) {x : Checked} (e : x ≡ trace_tests s t edges) (h : x ≡ Ok tt) where
@@ -55,11 +48,11 @@ module _ (s t : List ℕ) (edges : ℕ) {x : Checked} (e : x ≡ trace_tests s t
   passed_edges = leb-true 1008 edges (must_fine (leb 1008 edges) EdgeTableShort 0 (fine_next (target_rules t) _ (fine_next (system_rules s) _ passed)))
 
   -- the words that are taken in have letters alone
-  pub passed_words : {S : List (List ℕ)} → S ≡ freely_reduced_words s → AllOfLetters S
-  passed_words is = rw (is) (λ k. of_letters (word bytes (freely_reduced_words s) k) (reduced_letters s passed_system k))
+  pub passed_words : {S : List (List ℕ)} → S ≡ freely_reduced_words s → LetterWords S
+  passed_words is = rw (is) (reduced_letters s passed_system)
 
-  pub passed_word : {r w : List ℕ} → r ≡ t → w ≡ freely_reduce bytes (word_of r) → OfLetters w
-  passed_word same is = rw (is, same) (of_letters (freely_reduce bytes (word_of t)) (letters_reduce (word_of t) (target_letters t passed_target)))
+  pub passed_word : {r w : List ℕ} → r ≡ t → w ≡ freely_reduce bytes (word_of r) → AllLetters w
+  passed_word same is = rw (is, same) (letters_reduce (word_of t) (target_letters t passed_target))
 
 -- what the graph says of the words taken in it says of those of the records
 pub graph_told : (s t : List ℕ) {S : List (List ℕ)} {w : List ℕ} {b : Bool} → S ≡ freely_reduced_words s → w ≡ freely_reduce bytes (word_of t)

@@ -1,4 +1,4 @@
-// Trace: whether a target lies in the subgroup that a system generates, by the folded graph.
+// Trace: whether a target lies in the subgroup that a system generates, by the folded graph of the system.
 #![tactic(auto)]
 
 ghost use Rattle.std.specs.Prelude.{◌≡◌, length};
@@ -6,7 +6,7 @@ ghost use Rattle.asking.specs.Asking.{verdict_of};
 ghost use Rattle.tracing.specs.Meaning.{AgreesWithMember, KeptWhenRefused, TraceMeans};
 ghost use Rattle.tracing.specs.Tracing.{trace_answer, trace_tests};
 
-use folding::traces_back;
+use folding::member_by_graph;
 use graphs::Edge;
 use records::answers::{Answer, Refusal, Verdict, check_that};
 use records::record::{as_record, check_target, word_in};
@@ -16,9 +16,9 @@ use slots::system::System;
 use words::word::Word;
 
 // The edges of 16 loops of 63 letters.
-const TABLE: usize = 1008;
+const EDGES: usize = 1008;
 
-// Decides whether a target lies in the subgroup that a system generates, by its graph, which is laid and folded in a lent table of edges.
+// Decides whether a target lies in the subgroup that a system generates, by its folded graph, whose loops are laid in a lent table of edges.
 pub fn trace(system: &[u8], target: &[u8], table: &mut [Edge]) -> Answer
     ensures answer { result ≡ trace_answer system.now target.now (length table.old) }
     ensures table { KeptWhenRefused result table.old table.new }
@@ -33,11 +33,11 @@ pub fn trace(system: &[u8], target: &[u8], table: &mut [Edge]) -> Answer
     words.load(system);
     let mut word = Word::<64>::new();
     word.reduce(word_in(as_record(target)));
-    let verdict = verdict_on(traces_back(&words, word.letters(), table));
+    let verdict = verdict_of(member_by_graph(&words, word.letters(), table));
     Answer { verdict }
 }
 
-// Refusals 1 to 5, 6 and 21.
+// Refusals 1 to 6 and 21.
 fn check_trace(system: &[u8], target: &[u8], edges: usize) -> Result<(), Refusal>
     ensures { result ≡ trace_tests system.now target.now edges }
 {
@@ -49,14 +49,14 @@ fn check_trace(system: &[u8], target: &[u8], edges: usize) -> Result<(), Refusal
     let Ok(()) = targeted else {
         return targeted;
     };
-    check_that(edges >= TABLE, Reason::EdgeTableShort, 0)
+    check_that(edges >= EDGES, Reason::EdgeTableShort, 0)
 }
 
-// The verdict on a target whose letters lead back to the base, or do not.
-fn verdict_on(back: bool) -> Verdict
-    ensures { result ≡ verdict_of back }
+// The verdict on a target that is a member, or is not.
+fn verdict_of(member: bool) -> Verdict
+    ensures { result ≡ verdict_of member }
 {
-    if back {
+    if member {
         Verdict::Member
     } else {
         Verdict::NotMember

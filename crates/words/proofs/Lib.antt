@@ -10,3 +10,4 @@ pub mod Counting
 pub mod Joining
 pub mod Parts
 pub mod Mapping
+pub mod Contained

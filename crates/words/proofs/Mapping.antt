@@ -5,15 +5,10 @@ use lib.ListN.{get_or}
 use mathlib.Core.List.{List, [], ◌++◌, ◌∷◌, map}
 use mathlib.Core.Path.{◌≡◌, ◌∙◌, ap, refl, sym}
 use Rattle.words.specs.Alphabet.{Alphabet}
-use Rattle.words.specs.Words.{freely_reduce, inverse, push}
+use Rattle.words.specs.Words.{Each, freely_reduce, inverse, push}
 use Rattle.words.proofs.Alphabet.{AlphabetLaws, same?}
 use Rattle.words.proofs.FreeReduction.{push_cancel, push_keep}
 use Rattle.words.proofs.Inverse.{inverse-cons, inverse-nil}
-
--- each letter of a word is of a kind
-abbrev pub Each : {A : Type 0} → (A → Type 0) → List A → Type 0
-Each P [] = Unit
-Each P (x ∷ w) = P x × Each P w
 
 pub each_append : {A : Type 0} (P : A → Type 0) (u v : List A) → Each P u → Each P v → Each P (u ++ v)
 each_append P [] v a b = b

@@ -57,3 +57,8 @@ module _ {A : Type 0} (G : Alphabet A) where
   -- how many pairs cancel between two freely reduced words, the end of the first against the beginning of the second
   unfoldable pub cancellation : List A → List A → ℕ
   cancellation u v = common_prefix (inverse u) v
+
+-- each letter of a word is of a kind
+abbrev pub Each : {A : Type 0} → (A → Type 0) → List A → Type 0
+Each P [] = Unit
+Each P (x ∷ w) = P x × Each P w

@@ -1,12 +1,16 @@
+-- `folding::leads_back` meets its contract.
 use Rattle.std.proofs.Common.{rules}
-use Rattle.folding.proofs.Tracing.{lead_inside, traced_all, traced_nowhere, traced_on}
+use Rattle.folding.proofs.Tracing.{lead_inside, letter_from, letter_to, walk_all, walk_on, walk_over}
 use Rattle.folding.proofs.leads_back.Goals as goal
 
+pub lead-requires-clause-letter : goal.lead-requires-clause-letter
+lead-requires-clause-letter c = (search (letter_from, rules), search (letter_to, rules))
+
 pub returns-in_default : goal.returns-in_default
-returns-in_default c = search (traced_nowhere, rules)
+returns-in_default c = search (walk_over, rules)
 
 pub loop-letter-preserved : goal.loop-letter-preserved
-loop-letter-preserved c = (search (lead_inside, rules), search (traced_on, rules))
+loop-letter-preserved c = (search (lead_inside, rules), search (walk_on, rules))
 
 pub returns : goal.returns
-returns c = search (traced_all, rules)
+returns c = search (walk_all, rules)

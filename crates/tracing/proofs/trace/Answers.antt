@@ -21,25 +21,25 @@ load-requires c = search (passed_size, rules)
 pub as_record-requires : goal.as_record-requires
 as_record-requires c = search (passed_length, rules)
 
-pub traces_back-requires-clause-system : goal.traces_back-requires-clause-system
-traces_back-requires-clause-system c = passed_words _ _ _ c.check_trace-checked.ensures c.in-Ok.is c.load.ensures
+pub member_by_graph-requires-clause-system : goal.member_by_graph-requires-clause-system
+member_by_graph-requires-clause-system c = passed_words _ _ _ c.check_trace-checked.ensures c.in-Ok.is c.load.ensures
 
-pub traces_back-requires-clause-letters : goal.traces_back-requires-clause-letters
-traces_back-requires-clause-letters c =
+pub member_by_graph-requires-clause-letters : goal.member_by_graph-requires-clause-letters
+member_by_graph-requires-clause-letters c =
     passed_word _ _ _ c.check_trace-checked.ensures c.in-Ok.is c.as_record.ensures
     (c.letters.ensures.letters ∙ c.reduce.ensures.product ∙ ap (freely_reduce bytes) c.word_in.ensures.word)
 
-pub traces_back-requires-clause-room : goal.traces_back-requires-clause-room
-traces_back-requires-clause-room c = search (passed_edges, rules)
+pub member_by_graph-requires-clause-room : goal.member_by_graph-requires-clause-room
+member_by_graph-requires-clause-room c = search (passed_edges, rules)
 
 pub returns : goal.returns
 returns c =
     let word = c.letters.ensures.letters ∙ c.reduce.ensures.product ∙ ap (freely_reduce bytes) (c.word_in.ensures.word ∙ ap word_of c.as_record.ensures) in
-    let told = graph_told c.args.system.now c.args.target.now c.load.ensures word c.traces_back.ensures in
-    let answer = asked-given _ _ c.check_trace-checked.ensures c.in-Ok.is (c.verdict_on-verdict.ensures ∙ told) in
+    let told = graph_told c.args.system.now c.args.target.now c.load.ensures word c.member_by_graph.ensures in
+    let answer = asked-given _ _ c.check_trace-checked.ensures c.in-Ok.is (c.verdict_of-verdict.ensures ∙ told) in
     record {
       answer = answer;
-      table = λ f e. never_refused _ c.verdict_on-verdict.ensures f e;
+      table = λ f e. never_refused _ c.verdict_of-verdict.ensures f e;
       means = trace_means _ _ _ answer;
       agrees = trace_agrees _ _ _ answer;
     }

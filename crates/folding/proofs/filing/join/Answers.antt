@@ -1,3 +1,4 @@
+-- `folding::filing::join` meets its contract.
 use Rattle.std.proofs.Common.{rules}
 use Rattle.folding.proofs.Filed.{joined_next}
 use Rattle.folding.proofs.filing.join.Goals as goal

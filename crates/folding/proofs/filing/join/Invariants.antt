@@ -1,3 +1,4 @@
+-- The points up to here are those made one.
 use Rattle.std.proofs.Common.{◌≡◌, ◌++◌, drop, map, take}
 use Rattle.graphs.specs.Graphs.{joined}
 use Rattle.folding.proofs.filing.join.Given as goal

@@ -1,3 +1,4 @@
+-- `folding::folds::back` meets its contract.
 use Rattle.words.proofs.Alphabet.{flip_bit}
 use Rattle.folding.proofs.folds.back.Goals as goal
 

@@ -1,3 +1,4 @@
+-- `folding::folds::sweep` meets its contract.
 use Rattle.std.proofs.Common.{rules}
 use Rattle.folding.proofs.Sweeping.{fits_along, backward_high, backward_low, swept_all, swept_next}
 use Rattle.folding.proofs.folds.sweep.Goals as goal

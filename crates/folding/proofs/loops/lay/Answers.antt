@@ -1,3 +1,4 @@
+-- `folding::loops::lay` meets its contract.
 use Rattle.std.proofs.Common.{rules}
 use Rattle.folding.proofs.Laying.{lay_more, points_more}
 use Rattle.folding.proofs.loops.lay.Goals as goal

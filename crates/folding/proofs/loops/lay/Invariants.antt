@@ -1,3 +1,4 @@
+-- The loops of the words before are laid, and those of the words that are left are still to come.
 use Rattle.std.proofs.Common.{◌+◌, ◌*◌, ◌≤◌, ◌≡◌, ◌++◌, drop, length, take}
 use Rattle.graphs.specs.Graphs.{loops}
 use Rattle.folding.specs.Loops.{points_with_loops}

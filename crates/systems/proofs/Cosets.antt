@@ -1,13 +1,16 @@
 -- The words that a system generates are closed under products and inverses; so it is an equivalence that two words lie in one right coset, and
 -- it stays when both are multiplied by a word from the right.
 use mathlib.Core.Path.{◌≡◌, sym, ap, ◌∙◌}
-use mathlib.Core.List.{List, [], ◌++◌, append_assoc, append-nil}
+use mathlib.Core.List.{List, [], ◌∷◌, ◌++◌, append_assoc, append-nil, map}
+use Rattle.std.specs.Prelude.{Contains, false}
+use Rattle.std.proofs.lemmas.List.{get_or_default}
 use Rattle.words.specs.Alphabet.{Alphabet}
 use Rattle.words.specs.Words.{freely_reduce, inverse}
 use Rattle.words.proofs.Alphabet.{AlphabetLaws}
-use Rattle.words.proofs.FreeReduction.{freely_reduce_both, freely_reduce_left, freely_reduce_right}
+use Rattle.words.proofs.Contained.{contains_of_map}
+use Rattle.words.proofs.FreeReduction.{freely_reduce_both, freely_reduce_left, freely_reduce_right, freely_reduce_twice}
 use Rattle.words.proofs.Inverse.{freely_reduce-inverse, freely_reduce-inverse_self, freely_reduce_self_inverse, inverse-append, inverse-nil, inverse_twice}
-use Rattle.systems.specs.Products.{Generated, factors}
+use Rattle.systems.specs.Products.{Generated, factors, word}
 use Rattle.systems.proofs.Equivalence.{generated}
 use Rattle.systems.proofs.ProductLaws.{multiplied-append, multiplied-inverse}
 
@@ -69,3 +72,13 @@ module _ {A : Type 0} (G : Alphabet A) (L : AlphabetLaws G) where
 
     pub generated_coset : (w : List A) → Generated G S w → SameCoset w []
     generated_coset w g = rw (inverse-nil G L, append-nil) g
+
+    -- each word of a system is generated, and so is what it freely reduces to
+    pub word_generated : (w : List A) → Contains S w → Generated G S w
+    word_generated w h = generated G L S w (record { slot = h.0; inverted = false } ∷ [])
+        (ap (freely_reduce G) (append-nil (word G S h.0) ∙ get_or_default S h.0 [] w h.1 ∙ h.2))
+
+    pub reduced_generated : (w : List A) → Contains (map (freely_reduce G) S) w → Generated G S w
+    reduced_generated w h =
+        let r = contains_of_map (freely_reduce G) S w h in
+        generated-same r.0 w (sym (freely_reduce_twice G L r.0) ∙ ap (freely_reduce G) r.2) (word_generated r.0 r.1)
