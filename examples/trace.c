@@ -26,6 +26,7 @@ int main(void) {
     subgroups_reduce(system, sizeof system, words, sizeof words, log, sizeof log, &reduced);
     expect_answer("reduce", &reduced);
 
+    /* trace takes the given words, ask the reduced ones; what the table holds before a call does not matter */
     for (size_t k = 0; k < TARGETS; k++) {
         put_record(target, targets[k]);
         subgroups_trace(system, sizeof system, target, sizeof target, table, SUBGROUPS_EDGES, &traced);

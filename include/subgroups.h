@@ -36,8 +36,8 @@
  *
  * Buffers    words needs 64 bytes for each record of the system, product and word 64, log 4 for each move, the text of
  *            write_text 256, the numbers of to_numbers, and tidied, 128 for each record, and table 1,008 edges, which are
- *            counted as edges and not as bytes. A longer buffer does no harm:
- *            bytes after the last one written stay as they were. A refusal changes nothing but the answer, and the length
+ *            counted as edges and not as bytes. A longer buffer does no harm: bytes after the last one written stay as they
+ *            were, but for those of table after an answer. A refusal changes nothing but the answer, and the length
  *            that write_text gives, except that under SUBGROUPS_LOG_BUFFER_SHORT the log holds, as whole log records, the
  *            first moves that fit.
  *            How many moves a system takes is not known beforehand: 16 random words take some dozens, more than 1,000 have been
@@ -78,9 +78,9 @@
  * Graphs     The graph of a system has a loop at a base point for each word that is not empty after free reduction; two edges
  *            with the same letter that leave, or enter, one point are folded together until none are left. The system generates
  *            a target exactly when the target's freely reduced letters trace a path from the base back to the base. trace
- *            decides by this, and agrees with member wherever both have enough room. It lays and folds the edges in a table
- *            that the caller lends, and hands back no product. Each trace folds the graph anew: for many targets of one system
- *            reduce and ask are quicker.
+ *            decides by this, and agrees with member wherever both have enough room. It lays the edges of the loops in a table
+ *            that the caller lends, keeps on its stack what they are folded to, and hands back no product. Each trace folds
+ *            the graph anew: for many targets of one system reduce and ask are quicker.
  *
  * Stack      trace takes some 120,000 bytes of stack, in which it keeps where each point leads by each letter; a thread with a
  *            small stack needs more for it. No other call takes as much.
@@ -118,14 +118,14 @@ extern "C" {
 #endif
 
 enum {
-    SUBGROUPS_RECORD = 64,           /* the bytes of a record */
-    SUBGROUPS_LETTERS = 63,          /* the most letters of a word */
-    SUBGROUPS_SLOTS = 16,            /* the most records of a system */
-    SUBGROUPS_MOVE = 4,              /* the bytes of a log record, which is one move */
-    SUBGROUPS_TEXT = 256,            /* the most bytes of a text to read, and the room that write_text asks for */
-    SUBGROUPS_NUMBERS_RECORD = 128,  /* the bytes of a record of numbers */
-    SUBGROUPS_LARGEST_NUMBER = 1000, /* the largest number of a generator */
-    SUBGROUPS_EDGES = 1008           /* the edges that trace asks for */
+    SUBGROUPS_RECORD = 64,          /* the bytes of a record */
+    SUBGROUPS_LETTERS = 63,         /* the most letters of a word */
+    SUBGROUPS_SLOTS = 16,           /* the most records of a system */
+    SUBGROUPS_MOVE = 4,             /* the bytes of a log record, which is one move */
+    SUBGROUPS_TEXT = 256,           /* the most bytes of a text to read, and the room that write_text asks for */
+    SUBGROUPS_NUMBERS_RECORD = 128, /* the bytes of a record of numbers */
+    SUBGROUPS_EDGES = 1008,         /* the edges that trace asks for */
+    SUBGROUPS_LARGEST_NUMBER = 1000 /* the largest number of a generator */
 };
 
 /* What a call says: answer.verdict. */

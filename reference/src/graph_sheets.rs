@@ -4,8 +4,8 @@
 /// The words of a system, a target, and whether it is a member.
 type GraphSheet = (&'static [&'static str], &'static str, bool);
 
-/// The systems with their targets, those of the worked sheets first.
-pub const GRAPH_SHEETS: [GraphSheet; 50] = [
+/// The systems with their targets, those of the worked sheets on reduce, member and ask first.
+pub const GRAPH_SHEETS: [GraphSheet; 52] = [
     (&["ab", "b"], "a", true),
     (&["aa", "aaa"], "a", true),
     (&["ab", "ac", "Bd"], "Cd", true),
@@ -23,6 +23,7 @@ pub const GRAPH_SHEETS: [GraphSheet; 50] = [
     (&["", "abBA"], "", true),
     (&["", "abBA"], "b", false),
     (&["aA", "b"], "bb", true),
+    (&["aA", "b"], "aAb", true),
     (&["aA", "b"], "a", false),
     // One loop of two edges: a leaves the base, b enters it.
     (&["ab"], "", true),
@@ -58,8 +59,9 @@ pub const GRAPH_SHEETS: [GraphSheet; 50] = [
     // Edges at both ends: a from the base to a point, aB from there to another, and b back.
     (&["aabb", "ab"], "aabA", true),
     (&["aabb", "ab"], "ba", false),
-    // Two points, which a exchanges and b leaves: the words with an even number of a.
+    // Two points, which a exchanges and b keeps: the words in a and b with an even number of a and A.
     (&["aa", "b", "abA"], "aba", true),
+    (&["aa", "b", "abA"], "aBBa", true),
     (&["aa", "b", "abA"], "bAbbA", true),
     (&["aa", "b", "abA"], "ab", false),
     // One point with two loops: all words.

@@ -97,7 +97,7 @@ fn lengths_of_the_table() {
     for given in [Vec::new(), system(&["ab", "b"]), system(&["aA"]), full] {
         for target in [record(""), record("aA"), record("c")] {
             for edges in 0..MOST_EDGES {
-                check_refused(&given, &target, edges, refused(TABLE_SHORT, 0));
+                check_refused(&given, &target, edges, refused(EDGE_TABLE_SHORT, 0));
             }
             for edges in [1008, 1009, 2000] {
                 let answer = trace(&given, &target, &mut vec![FILL; edges]);
@@ -160,7 +160,7 @@ fn refusals_in_order() {
                 let expected = match (of_system, malformed) {
                     (Err(refusal), _) => Answer::refused(refusal),
                     (_, Some(place)) => refused(TARGET_OR_PRODUCT_MALFORMED, place),
-                    (_, None) if edges < 1008 => refused(TABLE_SHORT, 0),
+                    (_, None) if edges < 1008 => refused(EDGE_TABLE_SHORT, 0),
                     (Ok(is_member), None) => verdict(is_member),
                 };
                 if expected.number == 0 {

@@ -20,7 +20,7 @@ pub const NESTING_TOO_DEEP: u64 = 17;
 pub const EXPONENT_OUT_OF_RANGE: u64 = 18;
 pub const NUMBERS_MALFORMED: u64 = 19;
 pub const NUMBER_WITHOUT_LETTER: u64 = 20;
-pub const TABLE_SHORT: u64 = 21;
+pub const EDGE_TABLE_SHORT: u64 = 21;
 
 /// A refusal's number and place.
 #[derive(Clone, Copy, Debug, PartialEq, Eq)]

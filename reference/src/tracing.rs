@@ -4,7 +4,7 @@
 use crate::answers::{Answer, MEMBER, NOT_A_MEMBER};
 use crate::graph::traces;
 use crate::records::{read_system, read_target_or_product, MOST_RECORDS};
-use crate::refusals::{Refusal, TABLE_SHORT};
+use crate::refusals::{Refusal, EDGE_TABLE_SHORT};
 use crate::words::{Word, LONGEST};
 
 /// The most edges that a graph has before it is folded, those of 16 loops of 63 letters.
@@ -42,7 +42,7 @@ fn trace_or_refuse(system: &[u8], target: &[u8], table: &[Edge]) -> Result<Answe
 /// Checks that a table has room for the edges of every system, by rule 21.
 fn check_room_for_edges(table: &[Edge]) -> Result<(), Refusal> {
     if table.len() < MOST_EDGES {
-        return Err(Refusal::new(TABLE_SHORT, 0));
+        return Err(Refusal::new(EDGE_TABLE_SHORT, 0));
     }
     Ok(())
 }

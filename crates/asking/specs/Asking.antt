@@ -30,7 +30,8 @@ question_rules s t = system_rules s and_then target_rules t
 unfoldable pub ready_rules : List (List ℕ) → ℕ → Checked
 ready_rules S room = must (stopped S) SystemNotReduced 0 and_then must (leb 64 room) ProductBufferShort 0
 
--- "tidy, replay, multiply, ask, read and the three calls on numbers answer with the verdict alone": of ask, and of trace, a refusal, or the verdict on the target
+-- "tidy, replay, multiply, ask, read and the three calls on numbers answer with the verdict alone, and so does trace": of ask and of trace a
+-- refusal, or the verdict on the target
 abbrev pub asked_of : Checked → Verdict → Answer
 asked_of (Ok _) verdict = record { verdict = verdict }
 asked_of (Err f) verdict = record { verdict = Refused f }

@@ -1,25 +1,17 @@
--- Looking up and filing, case by case.
-use Prim.Native.Nat.{ℕ, zero, suc, ◌+◌, ◌-◌, ◌<◌}
-use mathlib.Core.Path.{◌≡◌, refl, sym, ap, ◌∙◌}
+-- A place of the index looked up, and a step filed there, case by case.
+use Prim.Native.Nat.{ℕ, zero, suc, ◌+◌, ◌-◌}
 use mathlib.Core.Bool.{cond, false, not, true}
-use mathlib.Core.List.{List, ◌++◌, map}
-use native.Mathlib.Omega.{arith}
+use mathlib.Core.List.{List, map}
+use mathlib.Core.Path.{◌≡◌, refl, sym, ap, ◌∙◌}
 use native.Mathlib.Numerals.{add-one}
+use native.Mathlib.Omega.{arith}
 use lib.Dec.{eqb}
-use lib.ListN.{drop, get_or, length, set, take}
+use lib.ListN.{get_or, set}
 use borrow.Author.Tests.{eq-eqb, ne_eqb}
 use Rattle.std.specs.Prelude.{None, Option, Some}
-use Rattle.std.proofs.lemmas.List.{get_or_default}
-use Rattle.std.proofs.lemmas.List.Edits.{map_over_more}
 use Rattle.graphs.specs.Graphs.{joined}
 use Rattle.graphs.specs.declared.Edge.{Edge}
 use Rattle.folding.specs.Filing.{to_fold, step_folds, filed_index, entry_point, folded_points, lead, index_after, place, point, points_after}
-
--- two points are made one in each place up to i
-pub joined_next : (one other : ℕ) (xs ys : List ℕ) (i : ℕ) {y : ℕ} → i < length xs → length ys ≡ length xs
-    → ys ≡ map (joined one other) (take i xs) ++ drop i xs → y ≡ joined one other (get_or ys i 0)
-    → set ys i y ≡ map (joined one other) (take (i + 1) xs) ++ drop (i + 1) xs
-joined_next one other xs ys i h l e is = rw (is) (map_over_more (joined one other) xs ys i (get_or ys i 0) h e (get_or_default ys i 0 (get_or ys i 0) (omega (arith, h, l))))
 
 module _ (points index : List ℕ) where
   module _ (p x : ℕ) where

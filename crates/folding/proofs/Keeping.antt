@@ -1,11 +1,11 @@
 -- A step is filed, or two points become one: what holds all the time holds on.
 use Prim.Native.Nat.{ℕ, zero, suc, ◌≤◌, ◌<◌, min}
-use mathlib.Core.Path.{◌≡◌, refl, sym, ap, ◌∙◌, subst}
-use mathlib.Core.Logic.{inl, inr}
 use mathlib.Core.Bool.{true}
 use mathlib.Core.List.{List, [], ◌∷◌, map}
-use native.Mathlib.Omega.{arith}
+use mathlib.Core.Logic.{inl, inr}
+use mathlib.Core.Path.{◌≡◌, refl, sym, ap, ◌∙◌, subst}
 use native.Mathlib.Decide.{dec_lt, ℕ_discrete}
+use native.Mathlib.Omega.{arith}
 use lib.ListN.{get_or, get_or-map, length, length-map, length-set, set}
 use Rattle.std.specs.Prelude.{All, Contains, None, Some}
 use Rattle.std.proofs.lemmas.List.{get_or-set_other, get_or-set_same}
@@ -13,15 +13,15 @@ use Rattle.std.proofs.lemmas.List.Elements.{All-contains, Contains-append_cases}
 use Rattle.std.proofs.lemmas.Option.{none-some, same_Some}
 use Rattle.words.specs.Alphabet.{bytes}
 use Rattle.words.proofs.Alphabet.{byte_laws}
-use Rattle.records.specs.Records.{is_letter}
-use Rattle.records.proofs.RoundTrip.{letter-flip, letter_high, letter_low}
+use Rattle.words.proofs.Contained.{contains_of_map}
 use Rattle.graphs.specs.Folding.{total}
 use Rattle.graphs.specs.Graphs.{Fold, Step, back, joined, more, moved_edge, none as no_fold, steps}
 use Rattle.graphs.specs.declared.Edge.{Edge}
-use Rattle.words.proofs.Contained.{contains_of_map}
 use Rattle.graphs.proofs.Folds.{fold_falls, folds_then}
 use Rattle.graphs.proofs.Joined.{joined-le, joined_base, joined_cases, joined_twice}
 use Rattle.graphs.proofs.Steps.{step_moved}
+use Rattle.records.specs.Records.{is_letter}
+use Rattle.records.proofs.RoundTrip.{letter-flip, letter_high, letter_low}
 use Rattle.folding.specs.Filing.{entry_point, lead, place, point}
 use Rattle.folding.specs.Sweeps.{EdgeAmong, FoldedSoFar, IsFiled, folded_edges}
 

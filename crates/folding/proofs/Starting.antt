@@ -1,29 +1,33 @@
 -- Before the first fold: each point is itself, no step is filed, and the edges lie between few points; and what an answer at the end says of
 -- the system.
 use Prim.Native.Nat.{ℕ, suc, ◌+◌, ◌-◌, ◌*◌, ◌≤◌, ◌<◌}
-use mathlib.Core.Path.{◌≡◌, refl, sym, ap, ◌∙◌}
 use mathlib.Core.Bool.{Bool}
 use mathlib.Core.List.{List, [], ◌∷◌, map}
+use mathlib.Core.Path.{◌≡◌, refl, sym, ap, ◌∙◌}
 use native.Mathlib.Decide.{dec_lt}
 use native.Mathlib.Omega.{arith}
 use lib.ListN.{get_or, get_or-eq_default, length, length-append, replicate}
+use Rattle.std.specs.Prelude.{All, Ok, None}
 use Rattle.std.proofs.lemmas.List.{get_or-replicate, length-replicate}
-use Rattle.std.specs.Prelude.{All, None}
 use Rattle.std.proofs.lemmas.List.Elements.{All-append, All-cons, All-head, All-nil, All-tail}
 use Rattle.std.proofs.lemmas.Option.{none-some}
 use Rattle.words.specs.Alphabet.{bytes}
 use Rattle.words.proofs.Alphabet.{byte_laws}
 use Rattle.systems.specs.Products.{FreelyReduced}
 use Rattle.systems.proofs.Equivalence.{freely_reduced-same}
-use Rattle.records.specs.Records.{AllLetters}
-use Rattle.slots.specs.Systems.{AllShort, LetterWords}
 use Rattle.graphs.specs.Folding.{member_by_graph}
-use Rattle.graphs.specs.Graphs.{edge, loop, loops, moved_edge, none as no_fold}
+use Rattle.graphs.specs.Graphs.{loops_of, edge, loop, loops, moved_edge, none as no_fold}
 use Rattle.graphs.specs.declared.Edge.{Edge}
 use Rattle.graphs.proofs.Deciding.{traces_back-member_by_graph}
+use Rattle.graphs.proofs.Loops.{loop-length}
+use Rattle.records.specs.Records.{AllLetters}
+use Rattle.slots.specs.Refusals.{system_rules}
+use Rattle.slots.specs.Systems.{AllShort, LetterWords, freely_reduced_words, system_of}
+use Rattle.slots.proofs.RoundTrip.{reduced-short, reduced_letters, words-length}
+use Rattle.slots.proofs.Systems.{system-few}
 use Rattle.folding.specs.Filing.{entry_point, lead, place, point}
-use Rattle.folding.specs.Sweeps.{EdgeAmong, FoldedSoFar, TracedIn}
 use Rattle.folding.specs.Loops.{points_with_loops}
+use Rattle.folding.specs.Sweeps.{EdgeAmong, FoldedSoFar, TracedIn}
 
 module _ (edges : List Edge) (points index : List ℕ) (among : All (EdgeAmong (length points)) edges) (few : length points ≤ 993)
     (own : (p : ℕ) → p < length points → point points p ≡ p) where
@@ -95,11 +99,6 @@ pub laid_among : (S : List (List ℕ)) {edges : List Edge} {n : ℕ} → LetterW
 laid_among S {n = n} l laid count = rw (laid) (loops_among 1 n S (omega arith) (omega (arith, count)) l)
 
 -- how many edges and points there are at most
-loop-length : (w : List ℕ) (p n : ℕ) → length (loop p n w) ≡ length w
-loop-length [] p n = refl
-loop-length (x ∷ []) p n = refl
-loop-length (x ∷ y ∷ w) p n = ap suc (loop-length (y ∷ w) n (suc n))
-
 loops-length : (n : ℕ) (S : List (List ℕ)) → AllShort S → length (loops n S) ≤ length S * 63
 loops-length n [] h = omega arith
 loops-length n (w ∷ S) h =
@@ -110,10 +109,10 @@ points-few n [] h = omega arith
 points-few n (w ∷ S) h = omega (arith, h 0, points-few (n + (length w - 1)) S (λ k. h (suc k)))
 
 module _ (S : List (List ℕ)) (few : length S ≤ 16) (short : AllShort S) where
-  pub edges_few : length (loops 1 S) ≤ 1008
+  edges_few : length (loops 1 S) ≤ 1008
   edges_few = omega (arith, few, loops-length 1 S short)
 
-  pub edges_low : LetterWords S → All (EdgeAmong 993) (loops 1 S)
+  edges_low : LetterWords S → All (EdgeAmong 993) (loops 1 S)
   edges_low l = loops_among 1 993 S (omega arith) (omega (arith, few, points-few 1 S short)) l
 
 -- what is told by the folded loops of a system is told by its folded graph
@@ -122,3 +121,13 @@ pub told_by_graph : (S : List (List ℕ)) {edges : List Edge} (w : List ℕ) {b 
 told_by_graph S {edges = edges} w h laid t =
     t.told ∙ traces_back-member_by_graph bytes byte_laws S t.graph
     (rw (freely_reduced-same bytes byte_laws S h, ← laid) t.folded) w
+
+-- the loops of a system that passes its tests
+pub system_loops : (s : List ℕ) → system_rules s ≡ Ok tt
+    → (length (loops_of bytes (system_of s)) ≤ 1008) × All (EdgeAmong 993) (loops_of bytes (system_of s))
+unfolding freely_reduced_words
+system_loops s e =
+    let few : length (freely_reduced_words s) ≤ 16 = omega (arith, words-length s, system-few s e) in (
+      edges_few (freely_reduced_words s) few (reduced-short s),
+      edges_low (freely_reduced_words s) few (reduced-short s) (reduced_letters s e),
+    )

@@ -1,22 +1,22 @@
 -- Sweeps: what filing one step more makes of them, and what holds after the last turn.
 use Prim.Native.Nat.{ℕ, ◌+◌, ◌-◌, ◌≤◌, ◌<◌}
-use mathlib.Core.Path.{◌≡◌, refl, sym, ap, ◌∙◌, subst}
-use mathlib.Core.Logic.{◌⊎◌, inl, inr}
 use mathlib.Core.Bool.{Bool, true, false, cond, ◌||◌, true≢false}
 use mathlib.Core.List.{List, map}
-use native.Mathlib.Omega.{arith}
+use mathlib.Core.Logic.{◌⊎◌, inl, inr}
+use mathlib.Core.Path.{◌≡◌, refl, sym, ap, ◌∙◌, subst}
 use native.Mathlib.Decide.{ℕ_discrete}
+use native.Mathlib.Omega.{arith}
 use lib.ListN.{get_or, length}
 use Rattle.std.specs.Prelude.{Contains, None, Option, Some}
 use Rattle.std.proofs.lemmas.List.{get_or_default}
 use Rattle.std.proofs.lemmas.List.Elements.{Contains-append_cases, Contains-append_left, Contains-append_right, Contains-get_or}
 use Rattle.words.specs.Alphabet.{bytes}
-use Rattle.records.specs.Records.{is_letter}
-use Rattle.records.proofs.RoundTrip.{letter_high, letter_low}
+use Rattle.words.proofs.Contained.{contains-map, contains_of_map}
 use Rattle.graphs.specs.Folding.{total}
 use Rattle.graphs.specs.Graphs.{back, edge}
 use Rattle.graphs.specs.declared.Edge.{Edge}
-use Rattle.words.proofs.Contained.{contains-map, contains_of_map}
+use Rattle.records.specs.Records.{is_letter}
+use Rattle.records.proofs.RoundTrip.{letter_high, letter_low}
 use Rattle.folding.specs.Filing.{Fits, step_folds, lead, index_after, point, points_after}
 use Rattle.folding.specs.Sweeps.{AnyStep, FoldedSoFar, IsFiled, StepBefore, Swept, edge_at_turn, folded_edges}
 use Rattle.folding.proofs.Filed.{agrees_folds, agrees_points, differs_folds, differs_points, found_index, vacant_folds, vacant_points, vacant_set}

@@ -1,43 +1,25 @@
--- A word is traced letter by letter; and where every step is filed, as the folded graph says.
-use Prim.Native.Nat.{ℕ, zero, suc, ◌+◌, ◌≤◌, ◌<◌}
-use mathlib.Core.Path.{◌≡◌, refl, sym, ap, ◌∙◌, subst}
-use mathlib.Core.Bool.{Bool, true, false}
+-- Where every step is filed, a word is traced as the folded graph says.
+use Prim.Native.Nat.{ℕ, zero, suc, ◌≤◌, ◌<◌}
+use mathlib.Core.Bool.{Bool, true}
 use mathlib.Core.List.{List, [], ◌∷◌}
-use native.Mathlib.Numerals.{add-one}
+use mathlib.Core.Path.{◌≡◌, refl, sym, ap, ◌∙◌, subst}
 use native.Mathlib.Omega.{arith}
-use lib.Dec.{eqb}
-use lib.ListN.{drop, drop_of_length-le, get_or, length}
-use lib.Seq.{drop-cons}
+use lib.ListN.{get_or, length}
 use Rattle.std.specs.Prelude.{None, Option, Some}
 use Rattle.std.proofs.lemmas.Option.{none-some, same_Some}
 use Rattle.words.specs.Alphabet.{bytes}
 use Rattle.words.specs.Words.{freely_reduce}
 use Rattle.words.proofs.Alphabet.{byte_laws}
-use Rattle.records.specs.Records.{AllLetters, is_letter}
-use Rattle.records.proofs.RoundTrip.{letter_high, letter_low}
 use Rattle.graphs.specs.Folding.{is_base, leads, traces_back, walk}
 use Rattle.graphs.specs.Graphs.{NoneLeft, Step, edge}
 use Rattle.graphs.specs.declared.Edge.{Edge}
 use Rattle.graphs.proofs.Steps.{step_of_moved}
 use Rattle.graphs.proofs.Walks.{leads_sound, leads_step, walk-cons, walk-nil, walk-stops}
+use Rattle.records.specs.Records.{AllLetters, is_letter}
+use Rattle.records.proofs.RoundTrip.{letter_high, letter_low}
+use Rattle.folding.specs.Filing.{Fits, entry_point, lead, leads_back, place, point}
 use Rattle.folding.specs.Sweeps.{Folded, TracedIn, folded_edges}
 use Rattle.folding.proofs.Keeping.{lead_settled}
-use Rattle.folding.specs.Filing.{Fits, entry_point, lead, leads_back, place, point}
-
--- a walk goes on from where it has come to, or stops, so the answer at the end is the answer from there on
-module _ (to : ℕ → ℕ → Option ℕ) (w : List ℕ) where
-  module _ (i p : ℕ) (inside : i < length w) (before : is_base (walk to p (drop i w)) ≡ is_base (walk to 0 w)) where
-    here : drop i w ≡ get_or w i 0 ∷ drop (i + 1) w
-    here = drop-cons w i 0 inside ∙ ap (λ (k : ℕ). get_or w i 0 ∷ drop k w) (sym (add-one i))
-
-    pub walk_on : {q : ℕ} → Some q ≡ to p (get_or w i 0) → is_base (walk to q (drop (i + 1) w)) ≡ is_base (walk to 0 w)
-    walk_on e = ap is_base (sym (ap (walk to p) here ∙ walk-cons to p (get_or w i 0) (drop (i + 1) w) (sym e))) ∙ before
-
-    pub walk_over : {o : Option ℕ} → o ≡ to p (get_or w i 0) → o ≡ None → false ≡ is_base (walk to 0 w)
-    walk_over e n = ap is_base (sym (ap (walk to p) here ∙ walk-stops to p (get_or w i 0) (drop (i + 1) w) (sym e ∙ n))) ∙ before
-
-  pub walk_all : (p : ℕ) {i : ℕ} → length w ≤ i → is_base (walk to p (drop i w)) ≡ is_base (walk to 0 w) → eqb p 0 ≡ is_base (walk to 0 w)
-  walk_all p h before = ap is_base (sym (ap (walk to p) (drop_of_length-le w h) ∙ walk-nil to p)) ∙ before
 
 -- a letter of a word of letters
 letter_of : (w : List ℕ) → AllLetters w → (i : ℕ) → i < length w → is_letter (get_or w i 0) ≡ true

@@ -1,10 +1,10 @@
 -- How far the folding of a list of edges has come: what holds of the points and of what is filed all the time, and at the end.
 use Rattle.std.specs.Prelude.{ℕ, ◌-◌, ◌<◌, ◌≡◌, ◌⊎◌, Bool, cond, false, true, List, All, Contains, Some, get_or, length, map}
 use Rattle.words.specs.Alphabet.{bytes}
-use Rattle.records.specs.Records.{is_letter}
 use Rattle.graphs.specs.Folding.{total, traces_back}
 use Rattle.graphs.specs.Graphs.{FoldedFrom, Folds, Step, back, edge, moved_edge, steps}
 use Rattle.graphs.specs.declared.Edge.{Edge}
+use Rattle.records.specs.Records.{is_letter}
 use Rattle.folding.specs.Filing.{Fits, lead, point}
 
 -- an edge between two of n points, by a letter

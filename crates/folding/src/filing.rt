@@ -52,8 +52,8 @@ fn join(points: &mut [u16], one: u16, other: u16)
     }
 }
 
-// Files a step: what its first end has become leads by its letter to what its other end has become. Where it leads elsewhere already, those two
-// are made one, and the answer is yes.
+// Files a step: what its first end has become leads by its letter to what its other end has become. Where it leads to another point already,
+// that point and the one that the other end has become are made one, and the answer is yes.
 pub fn file(points: &mut [u16], index: &mut [u16], step: Edge) -> bool
     requires fits { Fits points.old index.old }
     requires ends { (step.from < length points.old) × (step.to < length points.old) }

@@ -30,6 +30,7 @@ const PLACES: usize = POINTS * ROW;
 // The points of a short sheet. For so few points fewer places have to be cleared.
 const FEW_POINTS: usize = 256;
 
+// A row of places for each of these.
 const FEW_PLACES: usize = FEW_POINTS * ROW;
 
 // Whether a freely reduced word is a member of what a system generates, by the folded graph of the system.

@@ -1,10 +1,10 @@
 -- Stallings' theorem: in a folded graph of a system, however it was folded, a freely reduced word is that of a path from base to base exactly
 -- when the system generates it. So tracing decides what is generated, and all folded graphs of a system say the same.
 use Prim.Native.Nat.{ℕ, suc}
-use mathlib.Core.Path.{◌≡◌, refl, sym, ap₂}
-use mathlib.Core.Logic.{◌↔◌}
 use mathlib.Core.Bool.{Bool, true, false}
 use mathlib.Core.List.{List, [], ◌∷◌, ◌++◌, append-nil, append_assoc, map}
+use mathlib.Core.Logic.{◌↔◌}
+use mathlib.Core.Path.{◌≡◌, refl, sym, ap₂}
 use native.Mathlib.Decide.{dec_lt}
 use native.Mathlib.Omega.{arith}
 use lib.ListN.{get_or-eq_default, length}
@@ -15,15 +15,15 @@ use Rattle.words.proofs.Alphabet.{AlphabetLaws}
 use Rattle.words.proofs.FreeReduction.{freely_reduce_twice}
 use Rattle.systems.specs.Products.{Generated, spelled, value, word}
 use Rattle.systems.specs.declared.Factor.{Factor}
+use Rattle.systems.proofs.Cosets.{SameCoset, coset_generated, generated-same, same_coset_refl, same_coset_times, same_coset_trans, reduced_generated}
 use Rattle.systems.proofs.Equivalence.{freely_reduced-same, reduced-multiplied, words-freely_reduced}
-use Rattle.graphs.specs.declared.Edge.{Edge}
 use Rattle.graphs.specs.Folding.{folded_graph, folded_within, is_base, leads, member_by_graph, total, traces_back, walk}
 use Rattle.graphs.specs.Graphs.{FoldedGraph, Path, loops}
+use Rattle.graphs.specs.declared.Edge.{Edge}
 use Rattle.graphs.proofs.FirstFold.{folded_graph_is}
-use Rattle.systems.proofs.Cosets.{SameCoset, coset_generated, generated-same, same_coset_refl, same_coset_times, same_coset_trans, reduced_generated}
 use Rattle.graphs.proofs.Folds.{Marked, folds_marked, folds_path}
+use Rattle.graphs.proofs.Loops.{beginning, beginning_base, beginnings_marked, loops_path}
 use Rattle.graphs.proofs.Paths.{path-freely_reduce, path_append, path_inverse}
-use Rattle.graphs.proofs.Roses.{beginning, beginning_base, beginnings_marked, loops_path}
 use Rattle.graphs.proofs.Walks.{traces_back_path}
 
 module _ (G : Alphabet ℕ) (L : AlphabetLaws G) (S : List (List ℕ)) where
@@ -37,7 +37,7 @@ module _ (G : Alphabet ℕ) (L : AlphabetLaws G) (S : List (List ℕ)) where
       (path_marked word_of t h w k.0 q k.2)
 
   module _ (t : List Edge) (g : FoldedGraph G S t) where
-    -- what is traced back to the base is generated
+    -- the word of a path from base to base is generated
     path_generated : (w : List ℕ) → Path G t 0 w 0 → Generated G S w
     path_generated w h = coset_generated G L S w
         (rw (beginning_base ws) at (path_marked (beginning 1 ws) t (folds_marked G L S (beginning 1 ws) g.folds (beginnings_marked G L S ws (reduced_generated G L S))) w 0 0 h))

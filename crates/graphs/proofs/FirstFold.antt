@@ -1,9 +1,9 @@
 -- The function that folds: it finds a fold where one is left, and ends where none is.
 use Prim.Native.Nat.{ℕ, zero, suc, ◌<◌}
-use mathlib.Core.Path.{◌≡◌, refl, sym, ap, ◌∙◌}
-use mathlib.Core.Logic.{inl, inr}
 use mathlib.Core.Bool.{Bool, true, false, cond}
 use mathlib.Core.List.{List, [], ◌∷◌, map}
+use mathlib.Core.Logic.{inl, inr}
+use mathlib.Core.Path.{◌≡◌, refl, sym, ap, ◌∙◌}
 use native.Mathlib.Omega.{arith}
 use lib.Dec.{eqb}
 use borrow.Author.Tests.{eqb-false, eqb-true}
@@ -11,10 +11,10 @@ use Rattle.std.specs.Prelude.{Contains, None, Option, Some}
 use Rattle.std.proofs.lemmas.Option.{none-some, same_Some}
 use Rattle.words.specs.Alphabet.{Alphabet}
 use Rattle.words.proofs.Alphabet.{AlphabetLaws}
-use Rattle.graphs.specs.declared.Edge.{Edge}
+use Rattle.words.proofs.Contained.{contains-cons_cases, contains-nil, contains_head, contains_tail}
 use Rattle.graphs.specs.Folding.{first_fold, folded_graph, folded_within, leads, total}
 use Rattle.graphs.specs.Graphs.{Fold, FoldedGraph, Folds, NoneLeft, edge, joined, more, moved_edge, none as no_fold, loops_of, steps}
-use Rattle.words.proofs.Contained.{contains-cons_cases, contains-nil, contains_head, contains_tail}
+use Rattle.graphs.specs.declared.Edge.{Edge}
 use Rattle.graphs.proofs.Folds.{fold_falls}
 use Rattle.graphs.proofs.Walks.{leads_none, leads_sound}
 

@@ -1,22 +1,22 @@
 -- What a fold keeps: a word for each point, such that the words of its steps lie in its coset, and the paths from base to base. And a fold
 -- makes the sum of the points' numbers smaller.
 use Prim.Native.Nat.{ℕ, ◌+◌, ◌≤◌, ◌<◌, max, min}
-use mathlib.Core.Path.{◌≡◌}
-use mathlib.Core.Logic.{◌⊎◌, inl, inr}
 use mathlib.Core.List.{List, [], ◌∷◌, ◌++◌, map, append-nil, append_assoc}
-use native.Mathlib.Omega.{arith}
+use mathlib.Core.Logic.{◌⊎◌, inl, inr}
+use mathlib.Core.Path.{◌≡◌}
 use native.Mathlib.Decide.{dec_lt}
+use native.Mathlib.Omega.{arith}
 use Rattle.std.specs.Prelude.{Contains}
 use Rattle.std.proofs.lemmas.List.Sums.{sum_by-cons}
 use Rattle.words.specs.Alphabet.{Alphabet}
 use Rattle.words.specs.Words.{freely_reduce}
 use Rattle.words.proofs.Alphabet.{AlphabetLaws}
+use Rattle.words.proofs.Contained.{contains-cons_cases, contains-nil}
 use Rattle.words.proofs.FreeReduction.{freely_reduce_pair_flip}
-use Rattle.graphs.specs.declared.Edge.{Edge}
+use Rattle.systems.proofs.Cosets.{SameCoset, same_coset-freely_reduce, same_coset_refl, same_coset_sym, same_coset_times, same_coset_trans}
 use Rattle.graphs.specs.Folding.{total}
 use Rattle.graphs.specs.Graphs.{Fold, Folds, Path, Step, edge, joined, more, moved_edge, none as no_fold}
-use Rattle.words.proofs.Contained.{contains-cons_cases, contains-nil}
-use Rattle.systems.proofs.Cosets.{SameCoset, same_coset-freely_reduce, same_coset_refl, same_coset_sym, same_coset_times, same_coset_trans}
+use Rattle.graphs.specs.declared.Edge.{Edge}
 use Rattle.graphs.proofs.Joined.{joined-le, joined_base, joined_cases, joined_larger}
 use Rattle.graphs.proofs.Paths.{path_moved}
 use Rattle.graphs.proofs.Steps.{step_cases, step_of_moved}

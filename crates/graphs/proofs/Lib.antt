@@ -4,5 +4,5 @@ pub mod Paths
 pub mod Folds
 pub mod Walks
 pub mod FirstFold
-pub mod Roses
+pub mod Loops
 pub mod Deciding

@@ -1,15 +1,15 @@
 -- Paths in graphs: put together, turned round, freely reduced where no fold is left, and taken along with the points.
 use Prim.Native.Nat.{ℕ}
-use mathlib.Core.Path.{◌≡◌, refl, sym, ap}
 use mathlib.Core.List.{List, [], ◌∷◌, ◌++◌, map}
+use mathlib.Core.Path.{◌≡◌, refl, sym, ap}
 use Rattle.std.specs.Prelude.{Contains}
 use Rattle.words.specs.Alphabet.{Alphabet}
 use Rattle.words.specs.Words.{freely_reduce, inverse, push}
 use Rattle.words.proofs.Alphabet.{AlphabetLaws, same?}
 use Rattle.words.proofs.FreeReduction.{push_cancel, push_keep}
 use Rattle.words.proofs.Inverse.{inverse-cons, inverse-nil}
-use Rattle.graphs.specs.declared.Edge.{Edge}
 use Rattle.graphs.specs.Graphs.{NoneLeft, Path, Step, moved_edge}
+use Rattle.graphs.specs.declared.Edge.{Edge}
 use Rattle.graphs.proofs.Steps.{step_back, step_moved, step_within}
 
 module _ (G : Alphabet ℕ) (L : AlphabetLaws G) where

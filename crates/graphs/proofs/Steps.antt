@@ -1,15 +1,15 @@
 -- The steps in a graph: each can be taken back, and they go along with the points.
 use Prim.Native.Nat.{ℕ}
-use mathlib.Core.Path.{◌≡◌, sym, ap, ◌∙◌, subst}
-use mathlib.Core.Logic.{◌⊎◌, inl, inr}
 use mathlib.Core.List.{List, map}
+use mathlib.Core.Logic.{◌⊎◌, inl, inr}
+use mathlib.Core.Path.{◌≡◌, sym, ap, ◌∙◌, subst}
 use Rattle.std.specs.Prelude.{Contains}
 use Rattle.std.proofs.lemmas.List.Elements.{Contains-append_cases, Contains-append_left, Contains-append_right}
 use Rattle.words.specs.Alphabet.{Alphabet}
 use Rattle.words.proofs.Alphabet.{AlphabetLaws}
-use Rattle.graphs.specs.declared.Edge.{Edge}
-use Rattle.graphs.specs.Graphs.{Step, back, edge, moved_edge}
 use Rattle.words.proofs.Contained.{contains-map, contains_of_map}
+use Rattle.graphs.specs.Graphs.{Step, back, edge, moved_edge}
+use Rattle.graphs.specs.declared.Edge.{Edge}
 
 module _ (G : Alphabet ℕ) (L : AlphabetLaws G) where
   open G use {flip}

@@ -1,20 +1,23 @@
 -- Where the walk along a graph ends, a path leads there; and where no fold is left, it ends wherever a path leads.
-use Prim.Native.Nat.{ℕ}
-use mathlib.Core.Path.{◌≡◌, refl, sym, ap, ◌∙◌}
-use mathlib.Core.Logic.{◌↔◌, ◌⊎◌, inl, inr}
+use Prim.Native.Nat.{ℕ, ◌+◌, ◌≤◌, ◌<◌}
 use mathlib.Core.Bool.{Bool, true, false, cond, ◌&&◌, true≢false}
 use mathlib.Core.List.{List, [], ◌∷◌}
+use mathlib.Core.Logic.{◌↔◌, ◌⊎◌, inl, inr}
+use mathlib.Core.Path.{◌≡◌, refl, sym, ap, ◌∙◌}
+use native.Mathlib.Numerals.{add-one}
 use lib.Dec.{eqb}
+use lib.ListN.{drop, drop_of_length-le, get_or, length}
+use lib.Seq.{drop-cons}
 use borrow.Author.Tests.{eq-eqb, eqb-true}
 use Rattle.std.specs.Prelude.{Contains, None, Option, Some}
 use Rattle.std.proofs.lemmas.Option.{none-some, same_Some}
 use Rattle.words.specs.Alphabet.{Alphabet}
 use Rattle.words.specs.Words.{freely_reduce}
 use Rattle.words.proofs.Alphabet.{AlphabetLaws, same_yes}
-use Rattle.graphs.specs.declared.Edge.{Edge}
+use Rattle.words.proofs.Contained.{contains-cons_cases, contains-nil, contains_head, contains_tail}
 use Rattle.graphs.specs.Folding.{first_to, is_base, leads, traces_back, walk}
 use Rattle.graphs.specs.Graphs.{NoneLeft, Path, Step, edge, steps}
-use Rattle.words.proofs.Contained.{contains-cons_cases, contains-nil, contains_head, contains_tail}
+use Rattle.graphs.specs.declared.Edge.{Edge}
 
 -- a walk, letter by letter
 module _ (to : ℕ → ℕ → Option ℕ) (p : ℕ) where
@@ -30,6 +33,21 @@ module _ (to : ℕ → ℕ → Option ℕ) (p : ℕ) where
     pub walk-stops : to p x ≡ None → walk to p (x ∷ w) ≡ None
     unfolding walk
     walk-stops e = ap (λ (o : Option ℕ). elim o as (λ z. Option ℕ) [ None ↦ None | Some q ↦ walk to q w ]) e
+
+-- a walk goes on from where it has come to, or stops, so the answer at the end is the answer from there on
+module _ (to : ℕ → ℕ → Option ℕ) (w : List ℕ) where
+  module _ (i p : ℕ) (inside : i < length w) (before : is_base (walk to p (drop i w)) ≡ is_base (walk to 0 w)) where
+    here : drop i w ≡ get_or w i 0 ∷ drop (i + 1) w
+    here = drop-cons w i 0 inside ∙ ap (λ (k : ℕ). get_or w i 0 ∷ drop k w) (sym (add-one i))
+
+    pub walk_on : {q : ℕ} → Some q ≡ to p (get_or w i 0) → is_base (walk to q (drop (i + 1) w)) ≡ is_base (walk to 0 w)
+    walk_on e = ap is_base (sym (ap (walk to p) here ∙ walk-cons to p (get_or w i 0) (drop (i + 1) w) (sym e))) ∙ before
+
+    pub walk_over : {o : Option ℕ} → o ≡ to p (get_or w i 0) → o ≡ None → false ≡ is_base (walk to 0 w)
+    walk_over e n = ap is_base (sym (ap (walk to p) here ∙ walk-stops to p (get_or w i 0) (drop (i + 1) w) (sym e ∙ n))) ∙ before
+
+  pub walk_all : (p : ℕ) {i : ℕ} → length w ≤ i → is_base (walk to p (drop i w)) ≡ is_base (walk to 0 w) → eqb p 0 ≡ is_base (walk to 0 w)
+  walk_all p h before = ap is_base (sym (ap (walk to p) (drop_of_length-le w h) ∙ walk-nil to p)) ∙ before
 
 module _ (G : Alphabet ℕ) (L : AlphabetLaws G) where
   open G use {same}

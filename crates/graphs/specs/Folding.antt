@@ -2,7 +2,7 @@
 use Rattle.std.specs.Prelude.{ℕ, zero, suc, ◌+◌, Bool, false, cond, ◌&&◌, List, [], ◌∷◌, None, Option, Some, eqb, map, sum_by}
 use Rattle.words.specs.Alphabet.{Alphabet}
 use Rattle.words.specs.Words.{freely_reduce}
-use Rattle.graphs.specs.Graphs.{joined, moved_edge, loops_of, steps}
+use Rattle.graphs.specs.Graphs.{joined, loops_of, moved_edge, steps}
 use Rattle.graphs.specs.declared.Edge.{Edge}
 
 -- the sum of the points' numbers over the ends of all edges: each fold makes it smaller
@@ -35,8 +35,8 @@ module _ (G : Alphabet ℕ) where
   unfoldable pub traces_back : List Edge → List ℕ → Bool
   traces_back t w = is_base (walk (leads t) 0 (freely_reduce G w))
 
-  -- the two points that the first fold makes one: among some steps of t the first that leads elsewhere than the first step from its point by its
-  -- letter
+  -- of some steps of t the first whose point leads elsewhere by its letter: the points to which both lead are those that the first fold makes
+  -- one
   unfoldable pub first_fold : List Edge → List Edge → Option (ℕ × ℕ)
   first_fold t [] = None
   first_fold t (e ∷ s) = elim (leads t e.from e.letter) [

@@ -5,6 +5,7 @@ use Rattle.words.specs.Alphabet.{Alphabet}
 use Rattle.words.specs.Words.{freely_reduce}
 use Rattle.graphs.specs.declared.Edge.{Edge}
 
+-- the edge from p to q by the letter x
 abbrev pub edge : ℕ → ℕ → ℕ → Edge
 edge p x q = record { from = p; letter = x; to = q }
 

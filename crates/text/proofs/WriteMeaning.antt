@@ -45,7 +45,7 @@ text_runs : (w : List ℕ) → text_of w ≡ runs_text (runs w)
 unfolding text_of
 text_runs w = refl
 
--- refusal 6 is given for a record that is refused
+-- refusal 6 gives no other reason
 six_never : (n : Reason) → (6 ≡ number_of n → ⊥) → (c : Checked) → Never n (as_six c)
 six_never n h (Ok _) = fine_never n
 six_never n h (Err f) = other_never n TargetOrProductMalformed f.place h

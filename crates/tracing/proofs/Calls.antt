@@ -9,6 +9,8 @@ use Rattle.std.specs.Prelude.{Bool, Ok}
 use Rattle.words.specs.Alphabet.{bytes}
 use Rattle.words.specs.Words.{freely_reduce}
 use Rattle.words.proofs.Alphabet.{byte_laws}
+use Rattle.graphs.specs.Folding.{member_by_graph}
+use Rattle.graphs.proofs.Deciding.{member_by_graph-freely_reduced}
 use Rattle.records.specs.Records.{AllLetters, word_of}
 use Rattle.records.specs.Refusals.{Checked, target_rules}
 use Rattle.records.specs.declared.refusals.Reason.TheVariants.{EdgeTableShort}
@@ -19,8 +21,6 @@ use Rattle.slots.specs.Refusals.{system_rules}
 use Rattle.slots.specs.Systems.{LetterWords, freely_reduced_words, system_of}
 use Rattle.slots.proofs.RoundTrip.{reduced_letters}
 use Rattle.slots.proofs.Systems.{system-size}
-use Rattle.graphs.specs.Folding.{member_by_graph}
-use Rattle.graphs.proofs.Deciding.{member_by_graph-freely_reduced}
 use Rattle.asking.specs.Asking.{verdict_of}
 use Rattle.tracing.specs.Tracing.{trace_tests}
 

@@ -1,73 +1,40 @@
 -- What the answer of trace means, by the theorem on folded graphs; and that member gives the same verdict, since both say what is generated.
 use Prim.Native.Nat.{ℕ, ◌≤◌}
-use mathlib.Core.Bool.{Bool, true, false, true≢false}
+use mathlib.Core.Bool.{Bool, true}
 use mathlib.Core.List.{List}
-use mathlib.Core.Logic.{◌↔◌, inl, inr}
+use mathlib.Core.Logic.{◌↔◌}
 use mathlib.Core.Path.{◌∙◌, ◌≡◌, ap, refl, sym}
+use lib.ListN.{length}
 use borrow.Author.Tests.{le-leb}
 use Rattle.std.specs.Prelude.{All, Ok}
 use Rattle.words.specs.Alphabet.{bytes}
 use Rattle.words.proofs.Alphabet.{byte_laws}
 use Rattle.systems.specs.Products.{Generated}
+use Rattle.graphs.specs.Folding.{member_by_graph}
+use Rattle.graphs.specs.Graphs.{loops_of}
+use Rattle.graphs.proofs.Deciding.{member_by_graph-generated, path_decides}
+use Rattle.graphs.proofs.FirstFold.{folded_graph_is}
 use Rattle.records.specs.Records.{word_of}
 use Rattle.records.specs.Refusals.{Checked}
 use Rattle.records.specs.declared.answers.Answer.{Answer}
 use Rattle.records.specs.declared.answers.Refusal.{Refusal}
 use Rattle.records.specs.declared.answers.Verdict.{Verdict}
-use Rattle.records.specs.declared.answers.Verdict.TheVariants.{Member, NotMember, Refused}
-use Rattle.slots.specs.Systems.{freely_reduced_words, system_of}
-use Rattle.slots.proofs.RoundTrip.{reduced-short, reduced_letters, words-length}
-use Rattle.slots.proofs.Systems.{system-few}
-use Rattle.graphs.specs.Folding.{member_by_graph}
-use Rattle.graphs.proofs.Deciding.{member_by_graph-generated, path_decides}
+use Rattle.records.specs.declared.answers.Verdict.TheVariants.{Member, Refused}
+use Rattle.slots.specs.Systems.{system_of}
 use Rattle.folding.specs.Sweeps.{EdgeAmong}
-use Rattle.folding.proofs.Starting.{edges_few, edges_low}
+use Rattle.folding.proofs.Starting.{system_loops}
 use Rattle.asking.specs.Asking.{asked_of, verdict_of}
-use native.Mathlib.Omega.{arith}
-use Rattle.tracing.proofs.Calls.{passed_system}
-use Rattle.graphs.specs.Graphs.{loops_of}
-use Rattle.graphs.proofs.FirstFold.{folded_graph_is}
-use lib.ListN.{length}
-use Rattle.slots.specs.Refusals.{system_rules}
 use Rattle.asking.specs.Meaning.{Answered}
-use Rattle.asking.proofs.Meaning.{answered_fine, apart}
+use Rattle.asking.proofs.Meaning.{answered_fine}
+use Rattle.asking.proofs.Verdicts.{member_says, not_member_says, same_verdict, verdict_answered}
 use Rattle.membership.specs.Membership.{member_answer, member_log, member_product, member_words}
 use Rattle.membership.proofs.Meaning.{answered_unrefused, member_means}
 use Rattle.tracing.specs.Meaning.{AgreesWithMember, EnoughToTrace, TraceMeans}
 use Rattle.tracing.specs.Tracing.{trace_answer, trace_tests}
-
--- a verdict by a test that says what is generated
-module _ (P : Type 0) where
-  member_says : (b : Bool) → (b ≡ true) ↔ P → (verdict_of b ≡ Member) ↔ P
-  member_says true says = (λ _. says.0 refl, λ _. refl)
-  member_says false says = (λ e. absurd (apart (verdict_of false) e refl), λ p. absurd (true≢false (sym (says.1 p))))
-
-  not_member_says : (b : Bool) → (b ≡ true) ↔ P → (verdict_of b ≡ NotMember) ↔ (P → ⊥)
-  not_member_says true says = (λ e. absurd (apart (verdict_of true) refl e), λ n. absurd (n (says.0 refl)))
-  not_member_says false says = (λ _ p. true≢false (sym (says.1 p)), λ _. refl)
-
-verdict_answered : (b : Bool) → Answered (verdict_of b)
-verdict_answered true = inl refl
-verdict_answered false = inr refl
+use Rattle.tracing.proofs.Calls.{passed_system}
 
 pub never_refused : {P : Type 0} {v : Verdict} (b : Bool) → v ≡ verdict_of b → (f : Refusal) → v ≡ Refused f → P
 never_refused b e f h = absurd (answered_unrefused (verdict_of b) (verdict_answered b) f (sym e ∙ h))
-
--- two verdicts that say whether the same holds
-same_verdict : (P : Type 0) (u v : Verdict) → Answered u → Answered v → (u ≡ Member) ↔ P → (v ≡ Member) ↔ P → u ≡ v
-same_verdict P u v (inl e) h a b = e ∙ sym (b.1 (a.0 e))
-same_verdict P u v (inr e) (inl k) a b = absurd (apart u (a.1 (b.0 k)) e)
-same_verdict P u v (inr e) (inr k) a b = e ∙ sym k
-
--- the loops of a system that passes its tests
-system_loops : (s : List ℕ) → system_rules s ≡ Ok tt
-    → (length (loops_of bytes (system_of s)) ≤ 1008) × All (EdgeAmong 993) (loops_of bytes (system_of s))
-unfolding freely_reduced_words
-system_loops s e =
-    let few : length (freely_reduced_words s) ≤ 16 = omega (arith, words-length s, system-few s e) in (
-      edges_few (freely_reduced_words s) few (reduced-short s),
-      edges_low (freely_reduced_words s) few (reduced-short s) (reduced_letters s e),
-    )
 
 module _ (s t : List ℕ) (edges : ℕ) where
   abbrev by_graph : Bool

@@ -3,6 +3,9 @@ use Rattle.std.specs.Prelude.{◌≤◌, ◌≡◌, ◌↔◌, ℕ, List, All, O
 use Rattle.words.specs.Alphabet.{bytes}
 use Rattle.words.specs.Words.{freely_reduce}
 use Rattle.systems.specs.Products.{Generated}
+use Rattle.graphs.specs.Folding.{folded_graph}
+use Rattle.graphs.specs.Graphs.{FoldedGraph, Path, loops_of}
+use Rattle.graphs.specs.declared.Edge.{Edge}
 use Rattle.records.specs.Records.{word_of}
 use Rattle.records.specs.Refusals.{target_rules}
 use Rattle.records.specs.declared.answers.Answer.{Answer}
@@ -10,9 +13,6 @@ use Rattle.records.specs.declared.answers.Refusal.{Refusal}
 use Rattle.records.specs.declared.answers.Verdict.TheVariants.{Member, NotMember, Refused}
 use Rattle.slots.specs.Refusals.{system_rules}
 use Rattle.slots.specs.Systems.{system_of}
-use Rattle.graphs.specs.Folding.{folded_graph}
-use Rattle.graphs.specs.Graphs.{FoldedGraph, Path, loops_of}
-use Rattle.graphs.specs.declared.Edge.{Edge}
 use Rattle.folding.specs.Sweeps.{EdgeAmong}
 use Rattle.asking.specs.Meaning.{Answered}
 use Rattle.membership.specs.Meaning.{EnoughRoom}
@@ -38,7 +38,7 @@ pub record TraceMeans (given target : List ℕ) (edges : ℕ) (answer : Answer) 
       → (answer.verdict ≡ Member) ↔ Path bytes graph 0 (freely_reduce bytes (word_of target)) 0
   -- and there is one: that by which the answer is defined
   pub graph : FoldedGraph bytes (system_of given) (folded_graph bytes (system_of given))
-  -- "The edges are at most 1,008"; "and the points at most 993": their numbers are below it
+  -- "The edges are at most 1,008", "and the points at most 993": those of the loops, each end of which is a number below 993
   pub few_edges : Answered answer.verdict → length (loops_of bytes (system_of given)) ≤ 1008
   pub few_points : Answered answer.verdict → All (EdgeAmong 993) (loops_of bytes (system_of given))
 

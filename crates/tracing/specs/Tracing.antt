@@ -1,6 +1,7 @@
 -- Trace: "a system, a target and a table of edges in; member or not, by the folded graph".
 use Rattle.std.specs.Prelude.{ℕ, List, leb}
 use Rattle.words.specs.Alphabet.{bytes}
+use Rattle.graphs.specs.Folding.{member_by_graph}
 use Rattle.records.specs.Records.{word_of}
 use Rattle.records.specs.Refusals.{Checked, ◌and_then◌, must, target_rules}
 use Rattle.records.specs.declared.answers.Answer.{Answer}
@@ -8,7 +9,6 @@ use Rattle.records.specs.declared.refusals.Reason.TheVariants.{EdgeTableShort}
 use Rattle.slots.specs.Refusals.{system_rules}
 use Rattle.slots.specs.Systems.{system_of}
 use Rattle.asking.specs.Asking.{asked_of, verdict_of}
-use Rattle.graphs.specs.Folding.{member_by_graph}
 
 -- refusals 1 to 6, then 21. "The table has fewer than 1,008 edges."
 unfoldable pub trace_tests : List ℕ → List ℕ → ℕ → Checked

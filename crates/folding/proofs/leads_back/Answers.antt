@@ -1,6 +1,7 @@
 -- `folding::leads_back` meets its contract.
 use Rattle.std.proofs.Common.{rules}
-use Rattle.folding.proofs.Tracing.{lead_inside, letter_from, letter_to, walk_all, walk_on, walk_over}
+use Rattle.graphs.proofs.Walks.{walk_all, walk_on, walk_over}
+use Rattle.folding.proofs.Tracing.{lead_inside, letter_from, letter_to}
 use Rattle.folding.proofs.leads_back.Goals as goal
 
 pub lead-requires-clause-letter : goal.lead-requires-clause-letter

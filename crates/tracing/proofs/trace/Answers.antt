@@ -1,7 +1,7 @@
 -- `tracing::trace` meets its contract: a refusal is the first test that fails, and the verdict is told by the graph of the words that were
 -- taken in. What the answer means follows from the exact clause.
-use borrow.Author.Rules.{rules}
 use mathlib.Core.Path.{◌∙◌, ap, refl}
+use borrow.Author.Rules.{rules}
 use Rattle.words.specs.Alphabet.{bytes}
 use Rattle.words.specs.Words.{freely_reduce}
 use Rattle.records.specs.Records.{word_of}

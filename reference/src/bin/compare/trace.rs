@@ -1,7 +1,7 @@
 //! The inputs on which trace is compared: graphs of all sizes with little and with much to fold, and targets
 //! of all kinds. The table holds other bytes before each call, which a refusal leaves; after an answer only
-//! what stands beside it is looked at. Each verdict is compared with those of member of both versions, where
-//! a group acts on points with the action too, and refusals that member must give too with its own.
+//! what stands beside it is looked at. Each verdict is compared with those of member of both versions, and
+//! where a group acts on points with the action. A refusal that is member's too is compared with member's.
 
 use crate::comparison::Comparison;
 use crate::entries::{EDGE, MEMBER, TRACE};
@@ -58,7 +58,7 @@ pub fn compare() -> u64 {
     conjugates_in_slots(calls);
     finite_indices(calls);
     random_targets(calls);
-    let refusals = [TARGET_OR_PRODUCT_MALFORMED, TABLE_SHORT];
+    let refusals = [TARGET_OR_PRODUCT_MALFORMED, EDGE_TABLE_SHORT];
     let count = calls.end(&[answers::MEMBER, NOT_A_MEMBER], &refusals);
     let not_refused = calls.seen.not_refused();
     println!("trace: {not_refused} calls that are not refused agree with member of both versions");
@@ -125,7 +125,7 @@ fn check_refusal(
     answer: Answer,
 ) -> Result<(), &'static str> {
     let agrees = match answer.number {
-        TABLE_SHORT => table.len() < TABLE && !verdicts_of_members(inputs).contains(&REFUSED),
+        EDGE_TABLE_SHORT => table.len() < TABLE && !verdicts_of_members(inputs).contains(&REFUSED),
         _ => gives(MEMBER, inputs, [&[]; 3], answer),
     };
     if agrees {

@@ -1,10 +1,10 @@
 -- The loops of a system before any fold: each word is the word of a path from base to base, and each point is marked by the beginning of the
 -- word that leads to it.
 use Prim.Native.Nat.{ℕ, suc, ◌+◌, ◌-◌, ◌≤◌, ◌<◌}
-use mathlib.Core.Path.{◌≡◌, refl, ap, ◌∙◌}
-use mathlib.Core.Logic.{inl, inr}
 use mathlib.Core.Bool.{cond}
 use mathlib.Core.List.{List, [], ◌∷◌, ◌++◌, append_assoc}
+use mathlib.Core.Logic.{inl, inr}
+use mathlib.Core.Path.{◌≡◌, refl, ap, ◌∙◌}
 use native.Mathlib.Omega.{arith}
 use lib.Dec.{ltb}
 use lib.ListN.{length, take}
@@ -13,11 +13,11 @@ use Rattle.std.specs.Prelude.{Contains}
 use Rattle.std.proofs.lemmas.List.Elements.{Contains-append_cases, Contains-append_left, Contains-append_right}
 use Rattle.words.specs.Alphabet.{Alphabet}
 use Rattle.words.proofs.Alphabet.{AlphabetLaws}
-use Rattle.systems.specs.Products.{Generated}
-use Rattle.graphs.specs.declared.Edge.{Edge}
-use Rattle.graphs.specs.Graphs.{Path, edge, loop, loops}
 use Rattle.words.proofs.Contained.{contains-cons_cases, contains-nil, contains_head, contains_tail}
+use Rattle.systems.specs.Products.{Generated}
 use Rattle.systems.proofs.Cosets.{SameCoset, generated_coset, same_coset_refl}
+use Rattle.graphs.specs.Graphs.{Path, edge, loop, loops}
+use Rattle.graphs.specs.declared.Edge.{Edge}
 use Rattle.graphs.proofs.Folds.{Marked, marked_edges}
 use Rattle.graphs.proofs.Paths.{path_within}
 use Rattle.graphs.proofs.Steps.{step_edge}
@@ -36,6 +36,12 @@ beginning_later n w ws p h = rw (le-ltb p (n + (length w - 1)) h)
 pub beginning_base : (ws : List (List ℕ)) → beginning 1 ws 0 ≡ []
 beginning_base [] = refl
 beginning_base (w ∷ ws) = beginning_here 1 w ws 0 (omega arith)
+
+-- an edge for each letter
+pub loop-length : (w : List ℕ) (p n : ℕ) → length (loop p n w) ≡ length w
+loop-length [] p n = refl
+loop-length (x ∷ []) p n = refl
+loop-length (x ∷ y ∷ w) p n = ap suc (loop-length (y ∷ w) n (suc n))
 
 module _ (G : Alphabet ℕ) (L : AlphabetLaws G) where
   loop_path : (p n x : ℕ) (w : List ℕ) → Path G (loop p n (x ∷ w)) p (x ∷ w) 0
