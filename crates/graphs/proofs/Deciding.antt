@@ -49,7 +49,7 @@ module _ (G : Alphabet ℕ) (L : AlphabetLaws G) (S : List (List ℕ)) where
     word_path : (k : ℕ) → Path G t 0 (word G (map (freely_reduce G) S) k) 0
     word_path k = elim (dec_lt k (length (map (freely_reduce G) S))) [
       | yes l ↦ folds_path G L g.folds (word G (map (freely_reduce G) S) k)
-          (loops_path G L 1 (map (freely_reduce G) S) (word G (map (freely_reduce G) S) k) (Contains-get_or (map (freely_reduce G) S) k [] l))
+          (loops_path G L (map (freely_reduce G) S) 1 (word G (map (freely_reduce G) S) k) (Contains-get_or (map (freely_reduce G) S) k [] l))
       | no n ↦ (let e : word G (map (freely_reduce G) S) k ≡ [] = get_or-eq_default (map (freely_reduce G) S) [] (omega arith) in rw (e) refl)
     ]
 

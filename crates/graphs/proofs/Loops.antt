@@ -57,14 +57,12 @@ module _ (G : Alphabet ℕ) (L : AlphabetLaws G) where
   base_path n [] = refl
   base_path n (x ∷ w) = loop_path 0 n x w
 
-  pub loops_path : (n : ℕ) (ws : List (List ℕ)) (w : List ℕ) → Contains ws w → Path G (loops n ws) 0 w 0
-  loops_path n [] w h = absurd (contains-nil w h)
-  loops_path n (v ∷ ws) w h =
-      let more : List Edge = loops (n + (length v - 1)) ws in
-      elim (contains-cons_cases v ws w h) [
-        | inl e ↦ rw (e) (path_within G L (loop 0 n v) (loop 0 n v ++ more) (Contains-append_left (loop 0 n v) more) v 0 0 (base_path n v))
-        | inr k ↦ path_within G L more (loop 0 n v ++ more) (Contains-append_right (loop 0 n v) more) w 0 0 (loops_path (n + (length v - 1)) ws w k)
-      ]
+  pub loops_path : (ws : List (List ℕ)) (n : ℕ) (w : List ℕ) → Contains ws w → Path G (loops n ws) 0 w 0
+  loops_path [] n w h = absurd (contains-nil w h)
+  loops_path (v ∷ ws) n w h = elim (contains-cons_cases v ws w h) [
+    | inl e ↦ rw (e) (path_within G L (loop 0 n v) (loops n (v ∷ ws)) (Contains-append_left (loop 0 n v) _) v 0 0 (base_path n v))
+    | inr k ↦ path_within G L _ (loops n (v ∷ ws)) (Contains-append_right (loop 0 n v) _) w 0 0 (loops_path ws _ w k)
+  ]
 
   module _ (S : List (List ℕ)) (word_of : ℕ → List ℕ) (base : word_of 0 ≡ []) where
     abbrev MarkedEdges : List Edge → Type 0
@@ -103,7 +101,7 @@ module _ (G : Alphabet ℕ) (L : AlphabetLaws G) where
     loops_marked : (n : ℕ) (ws : List (List ℕ)) → ((w : List ℕ) → Contains ws w → Generated G S w)
         → ((k : ℕ) → n ≤ k → word_of k ≡ beginning n ws k) → MarkedEdges (loops n ws)
     loops_marked n [] g h a x b c = absurd (contains-nil (edge a x b) c)
-    loops_marked n (w ∷ ws) g h a x b c = elim (Contains-append_cases (loop 0 n w) (loops (n + (length w - 1)) ws) (edge a x b) c) [
+    loops_marked n (w ∷ ws) g h a x b c = elim (Contains-append_cases (loop 0 n w) _ (edge a x b) c) [
       | inl i ↦ loop_marked 0 n [] w (g w (contains_head w ws)) base (λ k l m. h k l ∙ beginning_here n w ws k m) a x b i
       | inr i ↦ loops_marked (n + (length w - 1)) ws (λ v k. g v (contains_tail w ws v k))
           (λ k l. h k (omega arith) ∙ beginning_later n w ws k l) a x b i
