@@ -163,16 +163,11 @@ fn damaged_targets(calls: &mut Ask) {
 
 /// All systems of a few short words, with all short targets and with few.
 fn small_systems(calls: &mut Ask) {
-    for (generators, longest, records, longest_target) in
-        [(1, 5, 2, 6), (2, 2, 2, 4), (2, 1, 3, 3), (3, 2, 1, 3)]
-    {
-        let targets = small::words(generators, longest_target);
-        small::for_each_system(generators, longest, records, |system| {
-            for target in &targets {
-                call_letters(calls, system, target);
-            }
-        });
-    }
+    for_each_small_system_and_targets(|system, targets| {
+        for target in targets {
+            call_letters(calls, system, target);
+        }
+    });
     for_each_small_system(|system| {
         call_letters(calls, system, b"ab");
         call_letters(calls, system, b"");

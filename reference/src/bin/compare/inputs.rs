@@ -265,6 +265,18 @@ pub fn for_each_small_system(mut lend: impl FnMut(&[u8])) {
     }
 }
 
+/// Lends all systems of a few short words, each with all short targets.
+pub fn for_each_small_system_and_targets(mut lend: impl FnMut(&[u8], &[Vec<u8>])) {
+    for (generators, longest, records, longest_target) in
+        [(1, 5, 2, 6), (2, 2, 2, 4), (2, 1, 3, 3), (3, 2, 1, 3)]
+    {
+        let targets = small::words(generators, longest_target);
+        small::for_each_system(generators, longest, records, |system| {
+            lend(system, &targets)
+        });
+    }
+}
+
 /// A well-formed system of a one-letter word, a word of 63 letters and two short ones, then the
 /// same broken by each of the rules 1 to 5 and by two of them at once.
 pub fn sound_and_refused_systems() -> Vec<Vec<u8>> {

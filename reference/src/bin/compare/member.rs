@@ -15,7 +15,6 @@ use subgroups_reference::records::{freely_reduced, record, system, MOST_RECORDS,
 use subgroups_reference::reduction::reduction;
 use subgroups_reference::refusals::*;
 use subgroups_reference::sheets::{Target, SHEETS};
-use subgroups_reference::small;
 use subgroups_reference::words::LONGEST;
 
 /// The comparison of member: the system and the target; the words buffer, the log and the product buffer.
@@ -157,17 +156,12 @@ fn one_buffer_for_both(calls: &mut Member) {
 
 /// All systems of two and three short words with all short targets.
 fn small_systems(calls: &mut Member) {
-    for (generators, longest, records, longest_target) in
-        [(1, 5, 2, 6), (2, 2, 2, 4), (2, 1, 3, 3), (3, 2, 1, 3)]
-    {
-        let targets = small::words(generators, longest_target);
-        small::for_each_system(generators, longest, records, |system| {
-            let [_, log, _] = lengths_needed(system);
-            for target in &targets {
-                call_letters(calls, system, target, log);
-            }
-        });
-    }
+    for_each_small_system_and_targets(|system, targets| {
+        let [_, log, _] = lengths_needed(system);
+        for target in targets {
+            call_letters(calls, system, target, log);
+        }
+    });
 }
 
 /// Long powers of one generator, which take very many moves, with powers and others as targets.

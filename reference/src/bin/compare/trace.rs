@@ -19,7 +19,6 @@ use subgroups_reference::records::{
 };
 use subgroups_reference::reduction::reduction;
 use subgroups_reference::refusals::*;
-use subgroups_reference::small;
 use subgroups_reference::words::{inverse_letters, Word, LONGEST};
 
 /// The comparison of trace: the system and the target; the table.
@@ -248,16 +247,11 @@ fn damaged_targets(calls: &mut Trace) {
 
 /// All systems of a few short words with all short targets.
 fn small_systems(calls: &mut Trace) {
-    for (generators, longest, records, longest_target) in
-        [(1, 5, 2, 6), (2, 2, 2, 4), (2, 1, 3, 3), (3, 2, 1, 3)]
-    {
-        let targets = small::words(generators, longest_target);
-        small::for_each_system(generators, longest, records, |system| {
-            for target in &targets {
-                call_letters(calls, system, target);
-            }
-        });
-    }
+    for_each_small_system_and_targets(|system, targets| {
+        for target in targets {
+            call_letters(calls, system, target);
+        }
+    });
 }
 
 /// Two powers of one letter, which fold to a loop as long as their greatest common divisor, and long powers
