@@ -2,12 +2,16 @@
 -- "Only slots that are not blank take part": a blank slot neither shortens a word nor is shortened, and a half has at least one letter.
 use Rattle.std.specs.Prelude.{ℕ, zero, suc, ◌/◌, ◌%◌, Bool, false, cond, not, ◌&&◌, ◌||◌, List, [], ◌∷◌, length, take, drop, ltb, eqb}
 use Rattle.std.specs.Prelude.{None, Option, Some}
+use Rattle.std.specs.Option.{option_map}
 use Rattle.words.specs.Alphabet.{Alphabet}
 use Rattle.words.specs.Words.{freely_reduce, inverse, common_prefix}
 use Rattle.systems.specs.Products.{word}
 use Rattle.systems.specs.Moves.{formed, made, made_all}
 use Rattle.systems.specs.declared.Form.{Form}
 use Rattle.systems.specs.declared.Move.{Move}
+use Rattle.systems.specs.declared.Found.{Found}
+use Rattle.systems.specs.declared.Rule.{Rule}
+use Rattle.systems.specs.declared.Rule.TheVariants.{HalfEnd, Shortening}
 use Rattle.systems.specs.declared.Form.TheVariants.{After, Before, InverseAfter, InverseBefore}
 
 -- the first found among f 0, f 1, .. below n
@@ -26,6 +30,15 @@ form_at zero = Before
 form_at (suc zero) = InverseBefore
 form_at (suc (suc zero)) = After
 form_at (suc (suc (suc n))) = InverseAfter
+
+-- "s for shortening or h for half-end"
+abbrev pub rule_letter : Rule → ℕ
+rule_letter Shortening = 115
+rule_letter HalfEnd = 104
+
+-- a move that a rule makes, if there is one
+abbrev pub with_rule : Rule → Option Move → Option Found
+with_rule rule found = option_map (λ m. record { next = m; rule = rule }) found
 
 module _ {A : Type 0} (G : Alphabet A) where
   -- "if the freely reduced result is strictly shorter than w(k)"
@@ -98,6 +111,14 @@ module _ {A : Type 0} (G : Alphabet A) where
   -- the next move: "Half-end move, only when nothing shortens"
   unfoldable pub next : List (List A) → Option Move
   next S = elim (shortening S) [ None ↦ half_end S | Some m ↦ Some m ]
+
+  -- the rule that makes it: half-end, "only when nothing shortens"
+  unfoldable pub rule_of : List (List A) → Rule
+  rule_of S = elim (shortening S) [ None ↦ HalfEnd | Some m ↦ Shortening ]
+
+  -- the next move with its rule
+  unfoldable pub found_next : List (List A) → Option Found
+  found_next S = with_rule (rule_of S) (next S)
 
   -- the moves of a run, at most n of them: "repeat until neither rule applies"
   abbrev pub moves_within : ℕ → List (List A) → List Move

@@ -4,7 +4,7 @@
 ghost use Rattle.std.specs.Prelude.{◌<◌, ◌≡◌};
 ghost use Rattle.systems.specs.Factors.{factor_byte, factor_of};
 ghost use Rattle.systems.specs.Moves.{form_digit, undo, undoing};
-ghost use Rattle.systems.specs.Rules.{form_at};
+ghost use Rattle.systems.specs.Rules.{form_at, rule_letter, with_rule};
 
 // A factor of a product: the word of a slot, or its inverse.
 #[derive(Clone, Copy, Debug, PartialEq, Eq)]
@@ -28,6 +28,20 @@ pub struct Move {
     pub changed: usize,
     pub form: Form,
     pub other: usize,
+}
+
+// The two rules that make moves, each with its letter in a log.
+#[derive(Clone, Copy, Debug, PartialEq, Eq)]
+pub enum Rule {
+    HalfEnd = 104,
+    Shortening = 115,
+}
+
+// What a search finds: the next move, and the rule that makes it.
+#[derive(Clone, Copy, Debug, PartialEq, Eq)]
+pub struct Found {
+    pub next: Move,
+    pub rule: Rule,
 }
 
 impl Factor {
@@ -99,6 +113,25 @@ impl Move {
             form: self.form.undoing(),
             other: self.other,
         }
+    }
+}
+
+impl Rule {
+    // A move that this rule makes, if there is one.
+    pub fn with(self, next: Option<Move>) -> Option<Found>
+        ensures { result ≡ with_rule self next }
+    {
+        let next = next?;
+        Some(Found { next, rule: self })
+    }
+}
+
+// The letter of a rule.
+impl From<Rule> for u8 {
+    ghost from_gives = { λ rule letter. letter ≡ rule_letter rule };
+
+    fn from(rule: Rule) -> u8 {
+        rule as u8
     }
 }
 
