@@ -1,16 +1,14 @@
 -- What the answer of member means, over the lent buffers alone: the third demand of docs/REQUIREMENTS.md; and that member gives what reduce
 -- and ask in turn give.
 use Rattle.std.specs.Prelude.{ℕ, ◌*◌, ◌≤◌, ◌≡◌, List, length, take}
-use Rattle.words.specs.Alphabet.{bytes}
-use Rattle.systems.specs.Rules.{moves_within}
-use Rattle.slots.specs.Systems.{freely_reduced_words, slots}
+use Rattle.slots.specs.Systems.{slots}
 use Rattle.slots.specs.Refusals.{system_rules}
 use Rattle.records.specs.declared.answers.Refusal.{Refusal}
 use Rattle.records.specs.declared.answers.Verdict.{Verdict}
 use Rattle.records.specs.declared.answers.Verdict.TheVariants.{Done, Refused}
 use Rattle.moves.specs.Logs.{move_size}
 use Rattle.records.specs.Refusals.{target_rules}
-use Rattle.reduction.specs.Meaning.{EnoughMoves, LogShort, Reduces}
+use Rattle.reduction.specs.Meaning.{EnoughMoves, LogShort, Reduces, logged_moves}
 use Rattle.reduction.specs.Reduction.{reduce_answer, reduce_log, reduce_words}
 use Rattle.reduction.specs.declared.answers.Reduction.{Reduction}
 use Rattle.asking.specs.Asking.{ask_answer, ask_product}
@@ -38,7 +36,7 @@ pub record MemberMeans (given target words log product : List ℕ) (answer : Red
   pub finite : (enough : ℕ) × EnoughMoves given enough
   -- where there is room for all but the moves, the call is refused with 13
   pub log_short : system_rules given ≡ Ok tt → target_rules target ≡ Ok tt → slots given * 64 ≤ length words → 64 ≤ length product
-      → (enough : ℕ) → EnoughMoves given enough → LogShort (moves_within bytes enough (freely_reduced_words given)) log log' answer
+      → (enough : ℕ) → EnoughMoves given enough → LogShort (logged_moves given enough) log log' answer
 
 -- "Where it isn't refused"
 abbrev pub NotRefused : Verdict → Type 0

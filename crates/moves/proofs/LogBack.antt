@@ -9,63 +9,63 @@ use lib.Dec.{leb}
 use lib.ListN.{drop, get_or, length, length-append}
 use lib.Seq.{drop_at, drop-cons, drop-drop, drop-nil, ext_get_or, get_or-drop}
 use borrow.Author.Tests.{le-leb, lt-ltb, ne_eqb}
-use Rattle.words.specs.Alphabet.{bytes}
 use Rattle.words.proofs.Below.{below_at, below_length}
-use Rattle.systems.specs.Moves.{made}
 use Rattle.systems.specs.declared.Form.{Form}
-use Rattle.systems.specs.declared.Move.{Move}
+use Rattle.systems.specs.declared.Rule.{Rule}
+use Rattle.systems.specs.declared.Rule.TheVariants.{HalfEnd, Shortening}
+use Rattle.moves.specs.declared.log.Logged.{Logged}
+use Rattle.moves.specs.Found.{Between}
+use Rattle.std.specs.Char.{is_ascii_digit}
 use Rattle.systems.specs.declared.Form.TheVariants.{After, Before, InverseAfter, InverseBefore}
 use Rattle.systems.specs.Moves.{form_digit}
-use Rattle.systems.specs.Rules.{form_at}
-use Rattle.systems.proofs.Neither.{ValidMoves}
-use Rattle.systems.proofs.Undoing.{Apart, made-length}
+use Rattle.systems.specs.Rules.{form_at, rule_letter}
 use Rattle.records.specs.Refusals.{each_below}
 use Rattle.records.proofs.Chains.{each_passes, must_pass}
-use Rattle.moves.specs.Logs.{is_move, log_of, log_record, log_rules, move_at, move_rule, move_size, moves_in, names_slot}
+use Rattle.moves.specs.Logs.{is_move, is_rule, log_of, log_record, log_rules, logged_at, logged_in, move_rule, move_size, named_rule, names_slot, number_in}
 use Rattle.moves.proofs.Logging.{log_even}
 use Rattle.records.specs.declared.refusals.Reason.TheVariants.{LogRecordMalformed}
 use Rattle.std.specs.Prelude.{Ok}
 
 -- the log of a list of moves, in parts
-pub log_of-append : (ms ns : List Move) → log_of (ms ++ ns) ≡ log_of ms ++ log_of ns
-log_of-append [] ns = refl
-log_of-append (m ∷ ms) ns = ap (λ (l : List ℕ). log_record m ++ l) (log_of-append ms ns) ∙ sym (append_assoc (log_record m) (log_of ms) (log_of ns))
+pub log_of-append : (ls ks : List Logged) → log_of (ls ++ ks) ≡ log_of ls ++ log_of ks
+log_of-append [] ks = refl
+log_of-append (l ∷ ls) ks = ap (λ (rest : List ℕ). log_record l ++ rest) (log_of-append ls ks) ∙ sym (append_assoc (log_record l) (log_of ls) (log_of ks))
 
-pub log_of_last : (ms : List Move) (m : Move) → log_of (ms ++ (m ∷ [])) ≡ log_of ms ++ log_record m
-log_of_last ms m = log_of-append ms (m ∷ [])
+pub log_of_last : (ls : List Logged) (l : Logged) → log_of (ls ++ (l ∷ [])) ≡ log_of ls ++ log_record l
+log_of_last ls l = log_of-append ls (l ∷ [])
 
-record-size : (m : Move) → length (log_record m) ≡ move_size
-record-size m = refl
+record-size : (l : Logged) → length (log_record l) ≡ move_size
+record-size l = refl
 
-pub log_of-length : (ms : List Move) → length (log_of ms) ≡ length ms * move_size
+pub log_of-length : (ls : List Logged) → length (log_of ls) ≡ length ls * move_size
 log_of-length [] = refl
-log_of-length (m ∷ ms) = omega (arith, length-append (log_record m) (log_of ms), record-size m, log_of-length ms)
+log_of-length (l ∷ ls) = omega (arith, length-append (log_record l) (log_of ls), record-size l, log_of-length ls)
 
-log_of-count : (ms : List Move) → length (log_of ms) / move_size ≡ length ms
-log_of-count ms = omega (arith, log_of-length ms)
+log_of-count : (ls : List Logged) → length (log_of ls) / move_size ≡ length ls
+log_of-count ls = omega (arith, log_of-length ls)
 
-log_of-drop : (j : ℕ) (ms : List Move) → drop (j * move_size) (log_of ms) ≡ log_of (drop j ms)
-log_of-drop zero ms = refl
+log_of-drop : (j : ℕ) (ls : List Logged) → drop (j * move_size) (log_of ls) ≡ log_of (drop j ls)
+log_of-drop zero ls = refl
 log_of-drop (suc j) [] = drop-nil (suc j * move_size)
-log_of-drop (suc j) (m ∷ ms) =
+log_of-drop (suc j) (l ∷ ls) =
     let place : suc j * move_size ≡ move_size + j * move_size = omega arith in
-    ap (λ (k : ℕ). drop k (log_record m ++ log_of ms)) place ∙ sym (drop-drop (j * move_size) move_size (log_record m ++ log_of ms))
-    ∙ ap (drop (j * move_size)) (drop_at (log_record m) (log_of ms) move_size (record-size m)) ∙ log_of-drop j ms
+    ap (λ (k : ℕ). drop k (log_record l ++ log_of ls)) place ∙ sym (drop-drop (j * move_size) move_size (log_record l ++ log_of ls))
+    ∙ ap (drop (j * move_size)) (drop_at (log_record l) (log_of ls) move_size (record-size l)) ∙ log_of-drop j ls
 
 -- a log record seen from its own place
-move_at_here : (log : List ℕ) (j : ℕ) → move_at log j ≡ move_at (drop (j * move_size) log) 0
-move_at_here log j = simp (get_or-drop, add-zero)
+logged_at_here : (log : List ℕ) (j : ℕ) → logged_at log j ≡ logged_at (drop (j * move_size) log) 0
+logged_at_here log j = simp (get_or-drop, add-zero)
 
 is_move_here : (n : ℕ) (log : List ℕ) (j : ℕ) → is_move n log j ≡ is_move n (drop (j * move_size) log) 0
 is_move_here n log j = simp (get_or-drop, add-zero)
 
--- a move between two different slots of the first n, and a list of such moves
-abbrev pub Between : ℕ → Move → Type 0
-Between n m = (m.changed < n) × (m.other < n) × Apart m
+-- what can be logged: a move between two different slots of the first n, with a length of two digits
+abbrev pub Loggable : ℕ → Logged → Type 0
+Loggable n l = Between n l.made × (l.new_length < 100)
 
-abbrev pub AllBetween : ℕ → List Move → Type 0
-AllBetween n [] = Unit
-AllBetween n (m ∷ ms) = Between n m × AllBetween n ms
+abbrev pub AllLoggable : ℕ → List Logged → Type 0
+AllLoggable n [] = Unit
+AllLoggable n (l ∷ ls) = Loggable n l × AllLoggable n ls
 
 -- what is written as a log record is read back, and passes the tests
 form_back : (f : Form) → form_at (form_digit f - 49) ≡ f
@@ -80,62 +80,75 @@ digit_back InverseBefore = refl
 digit_back After = refl
 digit_back InverseAfter = refl
 
+rule_back : (r : Rule) → (named_rule (rule_letter r) ≡ r) × (is_rule (rule_letter r) ≡ true)
+rule_back Shortening = (refl, refl)
+rule_back HalfEnd = (refl, refl)
+
+length_back : (n : ℕ) → number_in (48 + n / 10) (48 + n % 10) ≡ n
+length_back n = omega arith
+
+is_digit_back : (d : ℕ) → d < 10 → is_ascii_digit (48 + d) ≡ true
+is_digit_back d h = rw (le-leb 48 (48 + d) (omega arith), le-leb (48 + d) 57 (omega arith))
+
 slot_back : (n k : ℕ) → k < n → names_slot n (97 + k) ≡ true
 slot_back n k h = rw (le-leb 97 (97 + k) (omega arith), lt-ltb (97 + k - 97) n (omega arith))
 
-record_move : (m : Move) (rest : List ℕ) → move_at (log_record m ++ rest) 0 ≡ m
-record_move m rest = rw (add-sub_cancel_left 97 m.changed, add-sub_cancel_left 97 m.other, form_back m.form)
-
-record_valid : (n : ℕ) (m : Move) (rest : List ℕ) → Between n m → is_move n (log_record m ++ rest) 0 ≡ true
-record_valid n m rest b =
+record_back : (l : Logged) (rest : List ℕ) → logged_at (log_record l ++ rest) 0 ≡ l
+record_back l rest =
     rw (
-      slot_back n m.changed b.0,
-      digit_back m.form,
-      slot_back n m.other b.1,
-      ne_eqb (97 + m.changed) (97 + m.other) (λ e. b.2 (omega arith)),
+      add-sub_cancel_left 97 l.made.changed,
+      add-sub_cancel_left 97 l.made.other,
+      form_back l.made.form,
+      (rule_back l.rule).0,
+      length_back l.new_length,
+    )
+
+record_valid : (n : ℕ) (l : Logged) (rest : List ℕ) → Loggable n l → is_move n (log_record l ++ rest) 0 ≡ true
+record_valid n l rest h =
+    rw (
+      slot_back n l.made.changed h.0.0,
+      digit_back l.made.form,
+      slot_back n l.made.other h.0.1,
+      (rule_back l.rule).1,
+      is_digit_back (l.new_length / 10) (omega (arith, h.1)),
+      is_digit_back (l.new_length % 10) (omega arith),
+      ne_eqb (97 + l.made.changed) (97 + l.made.other) (λ e. h.0.2 (omega arith)),
     )
 
 -- each record of the log of a list
-module _ (ms : List Move) (j : ℕ) (inside : j < length ms) (d : Move) where
-  rest_of_log : drop (j * move_size) (log_of ms) ≡ log_record (get_or ms j d) ++ log_of (drop (suc j) ms)
-  rest_of_log = log_of-drop j ms ∙ ap log_of (drop-cons ms j d inside)
+module _ (ls : List Logged) (j : ℕ) (inside : j < length ls) (d : Logged) where
+  rest_of_log : drop (j * move_size) (log_of ls) ≡ log_record (get_or ls j d) ++ log_of (drop (suc j) ls)
+  rest_of_log = log_of-drop j ls ∙ ap log_of (drop-cons ls j d inside)
 
-  log_of_at : move_at (log_of ms) j ≡ get_or ms j d
-  log_of_at = move_at_here (log_of ms) j ∙ ap (λ (l : List ℕ). move_at l 0) rest_of_log ∙ record_move (get_or ms j d) (log_of (drop (suc j) ms))
+  pub log_of_at : logged_at (log_of ls) j ≡ get_or ls j d
+  log_of_at = logged_at_here (log_of ls) j ∙ ap (λ (l : List ℕ). logged_at l 0) rest_of_log ∙ record_back (get_or ls j d) (log_of (drop (suc j) ls))
 
-  log_of_valid : (n : ℕ) → Between n (get_or ms j d) → is_move n (log_of ms) j ≡ true
-  log_of_valid n b = is_move_here n (log_of ms) j ∙ ap (λ (l : List ℕ). is_move n l 0) rest_of_log ∙ record_valid n (get_or ms j d) (log_of (drop (suc j) ms)) b
+  log_of_valid : (n : ℕ) → Loggable n (get_or ls j d) → is_move n (log_of ls) j ≡ true
+  log_of_valid n h = is_move_here n (log_of ls) j ∙ ap (λ (l : List ℕ). is_move n l 0) rest_of_log ∙ record_valid n (get_or ls j d) (log_of (drop (suc j) ls)) h
 
--- reading back what was written: the log of a list of moves holds that list
-pub log_of-moves : (ms : List Move) → moves_in (log_of ms) ≡ ms
-log_of-moves ms =
-    let d : Move = move_at [] 0 in
-    ext_get_or d (moves_in (log_of ms)) ms (below_length (move_at (log_of ms)) (length (log_of ms) / move_size) ∙ log_of-count ms)
+-- reading back what was written: the log of a list of moves holds that list, with all that it says of them
+pub log_of-logged : (ls : List Logged) → logged_in (log_of ls) ≡ ls
+log_of-logged ls =
+    let d : Logged = logged_at [] 0 in
+    ext_get_or d (logged_in (log_of ls)) ls (below_length (logged_at (log_of ls)) (length (log_of ls) / move_size) ∙ log_of-count ls)
     (λ j h.
-    let room : j < length (log_of ms) / move_size = omega (arith, below_length (move_at (log_of ms)) (length (log_of ms) / move_size)) in
-    below_at (move_at (log_of ms)) (length (log_of ms) / move_size) j d room ∙ log_of_at ms j (omega (arith, log_of-count ms)) d)
+    let room : j < length (log_of ls) / move_size = omega (arith, below_length (logged_at (log_of ls)) (length (log_of ls) / move_size)) in
+    below_at (logged_at (log_of ls)) (length (log_of ls) / move_size) j d room ∙ log_of_at ls j (omega (arith, log_of-count ls)) d)
 
-all_at : (n : ℕ) (ms : List Move) (j : ℕ) (d : Move) → AllBetween n ms → j < length ms → Between n (get_or ms j d)
+all_at : (n : ℕ) (ls : List Logged) (j : ℕ) (d : Logged) → AllLoggable n ls → j < length ls → Loggable n (get_or ls j d)
 all_at n [] j d all h = absurd (omega arith)
-all_at n (m ∷ ms) zero d all h = all.0
-all_at n (m ∷ ms) (suc j) d all h = all_at n ms j d all.1 (omega arith)
+all_at n (l ∷ ls) zero d all h = all.0
+all_at n (l ∷ ls) (suc j) d all h = all_at n ls j d all.1 (omega arith)
 
 -- the log of moves between the first n slots passes the tests over n slots
-pub log_of_passes : (n : ℕ) (ms : List Move) → AllBetween n ms → log_rules n (log_of ms) ≡ Ok tt
-log_of_passes n ms all =
-    let d : Move = move_at [] 0 in
-    let even : length (log_of ms) % move_size ≡ 0 = omega (arith, log_of-length ms) in
-    let each : each_below (move_rule n (log_of ms)) (length (log_of ms) / move_size) ≡ (Ok tt) =
-    each_passes (move_rule n (log_of ms)) (length (log_of ms) / move_size)
+pub log_of_passes : (n : ℕ) (ls : List Logged) → AllLoggable n ls → log_rules n (log_of ls) ≡ Ok tt
+unfolding move_rule
+log_of_passes n ls all =
+    let d : Logged = logged_at [] 0 in
+    let even : length (log_of ls) % move_size ≡ 0 = omega (arith, log_of-length ls) in
+    let each : each_below (move_rule n (log_of ls)) (length (log_of ls) / move_size) ≡ (Ok tt) =
+    each_passes (move_rule n (log_of ls)) (length (log_of ls) / move_size)
     (λ j h.
-    let inside : j < length ms = omega (arith, log_of-count ms) in
-    must_pass _ LogRecordMalformed (j * move_size) (log_of_valid ms j inside d n (all_at n ms j d all inside))) in
-    log_even n (log_of ms) even each
-
--- the moves of a run lie between slots of its system
-pub valid_between : (S : List (List ℕ)) (ms : List Move) → ValidMoves bytes S ms → AllBetween (length S) ms
-valid_between S [] v = tt
-valid_between S (m ∷ ms) v = (
-  (v.0.allowed.changed_inside, v.0.allowed.other_inside, v.0.allowed.distinct),
-  rw (made-length bytes S m) at (valid_between (made bytes S m) ms v.1),
-)
+    let inside : j < length ls = omega (arith, log_of-count ls) in
+    must_pass _ LogRecordMalformed (j * move_size) (log_of_valid ls j inside d n (all_at n ls j d all inside))) in
+    log_even n (log_of ls) even each

@@ -1,15 +1,24 @@
 // Log records: one reader, one writer, one size.
-ghost use Rattle.std.specs.Prelude.{◌&&◌, ◌*◌, ◌+◌, ◌-◌, ◌<◌, ◌≤◌, ◌++◌, ◌≡◌, None, Some, cond, drop, leb, length, take};
+ghost use Rattle.std.specs.Prelude.{◌&&◌, ◌*◌, ◌+◌, ◌-◌, ◌<◌, ◌≤◌, ◌++◌, ◌≡◌, IfSome, None, Some, cond, drop, leb, length, take};
+ghost use Rattle.std.specs.Char.{is_ascii_digit};
 ghost use Rattle.systems.specs.Rules.{form_at};
-ghost use Rattle.moves.specs.Found.{FoundBelow};
-ghost use Rattle.moves.specs.Logs.{log_record, log_rules, move_size, names_slot, read_move};
+ghost use Rattle.moves.specs.Found.{Between, FoundBelow};
+ghost use Rattle.moves.specs.Logs.{is_rule, log_record, log_rules, move_size, named_rule, names_slot, read_move, number_in};
 
 use records::answers::{Refusal, check_that};
 use records::refusals::Reason;
-use systems::{Form, Move};
+use systems::{Form, Move, Rule};
 
 // The bytes of a log record.
-pub const MOVE: usize = 4;
+pub const MOVE: usize = 8;
+
+// A move as it is logged: with the rule that made it, and the changed word's new length.
+#[derive(Clone, Copy, Debug, PartialEq, Eq)]
+pub struct Logged {
+    pub made: Move,
+    pub rule: Rule,
+    pub new_length: usize,
+}
 
 // The slot that a letter names, if it is one of the first n.
 fn named_slot(n: usize, letter: u8) -> Option<usize>
@@ -31,19 +40,45 @@ fn named_form(digit: u8) -> Option<Form>
     }
 }
 
-// Reads the move in a log record, if it is one over n slots.
-pub fn read_move(n: usize, bytes: &[u8; MOVE]) -> Option<Move>
-    ensures read { result ≡ read_move n bytes.now }
-    ensures between { FoundBelow n result }
+// The rule that a letter names.
+fn named_rule(letter: u8) -> Option<Rule>
+    ensures { result ≡ cond (is_rule letter) (Some (named_rule letter)) None }
 {
-    let [changed, digit, other, end] = *bytes;
-    let found = Move {
-        changed: named_slot(n, changed)?,
-        form: named_form(digit)?,
-        other: named_slot(n, other)?,
+    match letter {
+        b's' => Some(Rule::Shortening),
+        b'h' => Some(Rule::HalfEnd),
+        _ => None,
+    }
+}
+
+// The number that two digits stand for.
+fn two_digits(tens: u8, ones: u8) -> Option<usize>
+    ensures { result ≡ cond (is_ascii_digit tens && is_ascii_digit ones) (Some (number_in tens ones)) None }
+{
+    if tens.is_ascii_digit() && ones.is_ascii_digit() {
+        Some((tens - b'0') as usize * 10 + (ones - b'0') as usize)
+    } else {
+        None
+    }
+}
+
+// Reads the move in a log record, if it is one over n slots.
+pub fn read_move(n: usize, bytes: &[u8; MOVE]) -> Option<Logged>
+    ensures read { result ≡ read_move n bytes.now }
+    ensures between { IfSome result (λ logged. Between n logged.made) }
+{
+    let [changed, digit, other, space, letter, tens, ones, end] = *bytes;
+    let logged = Logged {
+        made: Move {
+            changed: named_slot(n, changed)?,
+            form: named_form(digit)?,
+            other: named_slot(n, other)?,
+        },
+        rule: named_rule(letter)?,
+        new_length: two_digits(tens, ones)?,
     };
-    if end == b'\n' && changed != other {
-        Some(found)
+    if space == b' ' && end == b'\n' && changed != other {
+        Some(logged)
     } else {
         None
     }
@@ -69,15 +104,22 @@ pub fn check_log(n: usize, log: &[u8]) -> Result<(), Refusal>
 }
 
 // Writes a move as a log record.
-pub fn write_move(log: &mut [u8], j: usize, m: Move)
+pub fn write_move(log: &mut [u8], j: usize, logged: Logged)
     requires inside { j * move_size + move_size ≤ length log.old }
-    requires slots { (m.changed < 16) × (m.other < 16) }
-    ensures { log.new ≡ take (j * move_size) log.old ++ (log_record m ++ drop (j * move_size + move_size) log.old) }
+    requires slots { (logged.made.changed < 16) × (logged.made.other < 16) }
+    requires digits { logged.new_length < 100 }
+    ensures { log.new ≡ take (j * move_size) log.old ++ (log_record logged ++ drop (j * move_size + move_size) log.old) }
 {
+    let made = logged.made;
+    let length = logged.new_length as u8;
     let written = [
-        b'a' + m.changed as u8,
-        u8::from(m.form),
-        b'a' + m.other as u8,
+        b'a' + made.changed as u8,
+        u8::from(made.form),
+        b'a' + made.other as u8,
+        b' ',
+        u8::from(logged.rule),
+        b'0' + length / 10,
+        b'0' + length % 10,
         b'\n',
     ];
     let at = j * MOVE;

@@ -1,5 +1,5 @@
 -- Member called with the program's own buffers, and the output from the bytes kept and the count.
-use Prim.Native.Nat.{◌%◌, ◌*◌, ◌/◌, ◌≤◌, ℕ}
+use Prim.Native.Nat.{◌%◌, ◌*◌, ◌≤◌, ℕ}
 use mathlib.Core.Bool.{not}
 use mathlib.Core.List.{List}
 use mathlib.Core.Logic.{inl, inr}
@@ -17,6 +17,7 @@ use Rattle.records.specs.declared.answers.Refusal.{Refusal}
 use Rattle.records.specs.declared.answers.Verdict.{Verdict}
 use Rattle.records.proofs.Chains.{fine_first, fine_next, must_fine}
 use Rattle.slots.specs.Systems.{freely_reduced_words, slots}
+use Rattle.moves.specs.Logs.{move_size}
 use Rattle.runs.specs.Runs.{room_for}
 use Rattle.reduction.specs.Reduction.{reduction_of}
 use Rattle.reduction.specs.declared.answers.Reduction.{Reduction}
@@ -36,9 +37,9 @@ reduction_moves (Ok _) v S most = moves-most bytes most S
 reduction_moves (Err f) v S most = omega arith
 
 pub moves_fit : (s t words log product : List ℕ) (log' : List ℕ) {a : Reduction} → a ≡ member_answer s t words log product → length log' ≡ length log
-    → a.moves * 4 ≤ length log'
+    → a.moves * move_size ≤ length log'
 moves_fit s t words log product log' {a = a} e same =
-    let few : a.moves ≤ length log / 4 = rw e
+    let few : a.moves ≤ room_for log = rw e
     (reduction_moves (member_checked s t words log product) (verdict_of (is_found (member_found s t words log product))) (freely_reduced_words s) (room_for log)) in
     omega arith
 

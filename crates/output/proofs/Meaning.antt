@@ -101,19 +101,19 @@ module _ (input : List ℕ) (formed : WellFormed input) where
       (answer input) (words input) (log input) (product input)
   means = member_means (given_system input) (given_target input) program_words program_log program_product _ _ _ _ refl refl refl refl
 
-  room_enough : EnoughMoves (given_system input) 16384 → EnoughRoom (given_system input) (given_target input) program_words program_log program_product
+  room_enough : EnoughMoves (given_system input) 8192 → EnoughRoom (given_system input) (given_target input) program_words program_log program_product
   room_enough enough =
       record {
         system = formed.system;
         target_fits = formed.target;
         words_fit = words_fit_lem;
         product_fits = product-fits;
-        enough_moves = 16384;
+        enough_moves = 8192;
         no_more_moves = enough;
         log_fits = omega (arith, log-room);
       }
 
-  pub output_decides : EnoughMoves (given_system input) 16384 → Decided input (program_output input)
+  pub output_decides : EnoughMoves (given_system input) 8192 → Decided input (program_output input)
   unfolding program_output answer_output
   output_decides enough =
       let told = means.third_demand.answered (room_enough enough) in
@@ -128,10 +128,10 @@ module _ (input : List ℕ) (formed : WellFormed input) where
         reduces = means.reduces told;
       }
 
-  pub output_short : (EnoughMoves (given_system input) 16384 → ⊥) → program_output input ≡ refusal_line (record { reason = LogBufferShort; place = 0 })
+  pub output_short : (EnoughMoves (given_system input) 8192 → ⊥) → program_output input ≡ refusal_line (record { reason = LogBufferShort; place = 0 })
   unfolding program_output answer_output
   output_short more =
-      let room : room_for program_log ≡ 16384 = rw log-room refl in
+      let room : room_for program_log ≡ 8192 = rw log-room refl in
       let over : stopped (run_within bytes (room_for program_log) (freely_reduced_words (given_system input))) ≡ false =
       elim (option_cases (next bytes (run_within bytes (room_for program_log) (freely_reduced_words (given_system input))))) [
         | inl e ↦ absurd (more (rw (← room) e))

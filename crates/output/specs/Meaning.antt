@@ -29,12 +29,12 @@ pub record Decided (input output : List ℕ) : Type 0 where
   pub decides : Decides (given_system input) (given_target input) W P answer.verdict
   pub reduces : Reduces (given_system input) W L answer
 
--- what was written for an input: its whole output, which decides where the records are well formed and the rules make at most 16,384
+-- what was written for an input: its whole output, which decides where the records are well formed and the rules make at most 8,192
 -- moves, and is refusal 13 where they make more
 pub record PrintMeans (input out : List ℕ) (answer : Printed) (out' : List ℕ) : Type 0 where
   pub most : length (program_output input) ≤ 66704
   pub whole : answer ≡ Ok (length (program_output input))
   pub wrote : out' ≡ written (program_output input) out
-  pub decided : WellFormed input → EnoughMoves (given_system input) 16384 → Decided input (program_output input)
-  pub log_short : WellFormed input → (EnoughMoves (given_system input) 16384 → ⊥)
+  pub decided : WellFormed input → EnoughMoves (given_system input) 8192 → Decided input (program_output input)
+  pub log_short : WellFormed input → (EnoughMoves (given_system input) 8192 → ⊥)
       → program_output input ≡ refusal_line (record { reason = LogBufferShort; place = 0 })

@@ -7,5 +7,5 @@ pub enum Unprinted {
     Missing,
 }
 
-// No output has more bytes: a first line, 16 slots, 16,384 moves and a product.
+// No output has more bytes: a first line, 16 slots, 8,192 moves and a product.
 pub const OUTPUT: usize = 66704;

@@ -2,6 +2,7 @@
 #![tactic(auto)]
 
 ghost use Rattle.std.specs.Prelude.{◌*◌, ◌≤◌, [], cond, ◌++◌, ◌≡◌, length, take};
+ghost use Rattle.moves.specs.Logs.{move_size};
 ghost use Rattle.lines.specs.Lines.{answer_lines, is_member, lines_after, refusal_in, refusal_line};
 ghost use Rattle.printing.specs.Printing.{Prints};
 
@@ -26,7 +27,7 @@ pub fn print_reduction(
 ) -> Result<usize, Unprinted>
     requires slots { n ≤ 16 }
     requires words { n * 64 ≤ length words.now }
-    requires moves { answer.moves * 4 ≤ length log.now }
+    requires moves { answer.moves * move_size ≤ length log.now }
     requires log { length log.now ≤ 65536 }
     ensures { Prints (Some (lines_after (refusal_in answer.verdict) (answer_lines n answer words.now log.now product.now))) out.old result out.new }
 {

@@ -1,7 +1,7 @@
 -- The numbers of the refusals, as docs/REQUIREMENTS.md gives them.
 use Rattle.std.specs.Prelude.{ℕ}
 use Rattle.records.specs.declared.refusals.Reason.{Reason}
-use Rattle.records.specs.declared.refusals.Reason.TheVariants.{SystemUneven, SystemTooLong, NoLineFeed, NeitherLetterNorStop, LetterAfterStop, TargetOrProductMalformed, LogUneven, LogRecordMalformed, SlotMissing, WordsBufferShort, ProductBufferShort, WordTooLong, LogBufferShort, SystemNotReduced, TextMalformed, NestingTooDeep, ExponentOutOfRange, NumbersMalformed, NumberWithoutLetter, EdgeTableShort}
+use Rattle.records.specs.declared.refusals.Reason.TheVariants.{SystemUneven, SystemTooLong, NoLineFeed, NeitherLetterNorStop, LetterAfterStop, TargetOrProductMalformed, LogUneven, LogRecordMalformed, SlotMissing, WordsBufferShort, ProductBufferShort, WordTooLong, LogBufferShort, SystemNotReduced, TextMalformed, NestingTooDeep, ExponentOutOfRange, NumbersMalformed, NumberWithoutLetter, EdgeTableShort, LengthDiffers}
 
 abbrev pub number_of : Reason → ℕ
 number_of SystemUneven = 1
@@ -24,3 +24,4 @@ number_of ExponentOutOfRange = 18
 number_of NumbersMalformed = 19
 number_of NumberWithoutLetter = 20
 number_of EdgeTableShort = 21
+number_of LengthDiffers = 22

@@ -25,6 +25,7 @@ pub enum Reason {
     NumbersMalformed = 19,
     NumberWithoutLetter = 20,
     EdgeTableShort = 21,
+    LengthDiffers = 22,
 }
 
 // The number of a refusal.

@@ -3,13 +3,13 @@
 use Rattle.std.specs.Prelude.{is_none}
 use Prim.Native.Nat.{◌*◌, ◌-◌, ◌<◌, ◌≤◌, ℕ}
 use mathlib.Core.Bool.{Bool, false, true, true≢false}
-use mathlib.Core.List.{List, map}
+use mathlib.Core.List.{List, [], map}
 use mathlib.Core.Logic.{◌↔◌}
 use Rattle.std.specs.Prelude.{None, Option, Some}
 use mathlib.Core.Path.{◌∙◌, ◌≡◌, ap, refl, sym}
 use native.Mathlib.Decide.{dec_lt}
 use native.Mathlib.Omega.{arith}
-use lib.ListN.{length, take}
+use lib.ListN.{drop, length, take}
 use lib.Seq.{length-take-le}
 use Rattle.words.specs.Alphabet.{bytes}
 use Rattle.words.specs.Buffers.{written}
@@ -23,9 +23,11 @@ use Rattle.systems.specs.Rank.{none_blank, rank}
 use Rattle.systems.specs.Reduced.{Reduced}
 use Rattle.systems.specs.Rules.{moves_within, next, run_within}
 use Rattle.systems.proofs.Ending.{every_run-ends}
+use Rattle.systems.proofs.Explaining.{by_half_end, by_shortening, moves_next, rule_shortens}
+use Rattle.systems.proofs.Undoing.{made_all-freely_reduced}
 use Rattle.systems.proofs.Equivalence.{freely_reduced-same}
 use Rattle.systems.proofs.Neither.{moves_again, moves-first, moves_fit, moves-over, next-none, run_ended, run-freely_reduced, run_length, run_valid}
-use Rattle.systems.proofs.Runs.{backward, backward_way_within, equivalent, forward_way_within, forward-within, independence, reduced}
+use Rattle.systems.proofs.Runs.{backward, backward_to, backward_way_within, equivalent, forward_way_within, forward-within, independence, reduced}
 use Rattle.records.specs.Answers.{on_fine, refusal_number}
 use Rattle.records.specs.Refusals.{must}
 use Rattle.records.specs.declared.answers.Verdict.{Verdict}
@@ -35,12 +37,13 @@ use Rattle.slots.specs.Refusals.{system_room, system_rules}
 use Rattle.slots.specs.Systems.{AllShort, LetterWords, bytes_of, freely_reduced_words, slots, system_of}
 use Rattle.slots.proofs.RoundTrip.{bytes_of-length, bytes_of-slots, reduced_letters, reduced-short, system_back, system_passes, words-length}
 use Rattle.slots.proofs.Systems.{loaded_freely_reduced, room_fits, system-few}
-use Rattle.moves.specs.Logs.{log_of, log_rules, move_size}
-use Rattle.moves.proofs.LogBack.{AllBetween, log_of-length, log_of-moves, log_of_passes, valid_between}
+use Rattle.moves.specs.Logs.{explained, log_of, log_rules, logged, logged_at, move_at, move_size}
+use Rattle.moves.proofs.Explained.{explained_first, explained_loggable, explained_record, explained-length, log_of-moves, record_move}
+use Rattle.moves.proofs.LogBack.{log_of-length, log_of_passes}
 use Rattle.replay.specs.Replay.{replay_rules, run_rules}
-use Rattle.replay.proofs.Accepting.{replay_accepts, run_accepts}
+use Rattle.replay.proofs.Accepting.{replay_accepts, run_accepts, tells_backward, tells_forward}
 use Rattle.runs.specs.Runs.{room_for, stopped}
-use Rattle.reduction.specs.Meaning.{EnoughMoves, LogShort, ReduceMeans, Reduces, TestMeans}
+use Rattle.reduction.specs.Meaning.{EnoughMoves, LogShort, ReduceMeans, Reduces, Tells, TestMeans, logged_moves}
 use Rattle.reduction.specs.Reduction.{log_after, reduce_answer, reduce_log, reduce_tests, reduce_words, reduction_of, run_tests, test_answer, tested_of, words_after}
 use Rattle.reduction.specs.declared.answers.Reduction.{Reduction}
 use Rattle.reduction.specs.declared.answers.Tested.{Tested}
@@ -85,6 +88,10 @@ run_moves s n = moves_within bytes n (freely_reduced_words s)
 abbrev pub run_words : List ℕ → ℕ → List (List ℕ)
 run_words s n = run_within bytes n (freely_reduced_words s)
 
+-- and what is logged of them
+abbrev pub run_log : List ℕ → ℕ → List ℕ
+run_log s n = log_of (logged_moves s n)
+
 -- what a run leaves: short words, freely reduced
 module _ (s : List ℕ) (n : ℕ) where
   pub left_short : AllShort (run_words s n)
@@ -104,20 +111,46 @@ module _ (s : List ℕ) (n : ℕ) where
   left_bytes = bytes_of-length (run_words s n) left_short ∙ ap (λ (k : ℕ). k * 64) left_length
 
   -- its moves lie between slots of the system, so their log passes the tests of a log
-  moves_between : AllBetween (length (freely_reduced_words s)) (run_moves s n)
-  moves_between = valid_between (freely_reduced_words s) (run_moves s n) (run_valid bytes byte_laws n (freely_reduced_words s) (loaded_freely_reduced s))
+  log_passes : log_rules (slots s) (run_log s n) ≡ Ok tt
+  log_passes =
+      let valid = run_valid bytes byte_laws n (freely_reduced_words s) (loaded_freely_reduced s) in
+      log_of_passes (slots s) (logged_moves s n) (rw (words-length s) at (explained_loggable (freely_reduced_words s) (run_moves s n) valid (reduced-short s)))
 
-  log_passes : log_rules (slots s) (log_of (run_moves s n)) ≡ Ok tt
-  log_passes = log_of_passes (slots s) (run_moves s n) (rw (words-length s) at moves_between)
+  -- undone, they lead back through the words of the way there
+  back_way : (i : ℕ) → undone_all bytes (run_words s n) (drop i (run_moves s n)) ≡ made_all bytes (freely_reduced_words s) (take i (run_moves s n))
+  back_way i = backward_to bytes byte_laws n (freely_reduced_words s) (loaded_freely_reduced s) i
 
-  -- no word on the way is too long, forward or backward
-  forward-runs : run_rules false (freely_reduced_words s) (log_of (run_moves s n)) ≡ Ok tt
-  forward-runs = run_accepts false (freely_reduced_words s) (log_of (run_moves s n)) (rw (words-length s) log_passes)
-      (λ d. rw (log_of-moves (run_moves s n)) (forward_way_within bytes byte_laws n (freely_reduced_words s) (loaded_freely_reduced s) 63 (reduced-short s) d))
+  -- no word on the way is too long, forward or backward, and each has the length in the log
+  forward-runs : run_rules false (freely_reduced_words s) (run_log s n) ≡ Ok tt
+  forward-runs = run_accepts false (freely_reduced_words s) (run_log s n) (rw (words-length s) log_passes)
+      (λ d.
+      rw (log_of-moves (freely_reduced_words s) (run_moves s n))
+      (forward_way_within bytes byte_laws n (freely_reduced_words s) (loaded_freely_reduced s) 63 (reduced-short s) d))
+      (tells_forward (freely_reduced_words s) (run_moves s n))
 
-  backward-runs : run_rules true (run_words s n) (log_of (run_moves s n)) ≡ Ok tt
-  backward-runs = run_accepts true (run_words s n) (log_of (run_moves s n)) (rw left_length log_passes)
-      (λ d. rw (log_of-moves (run_moves s n)) (backward_way_within bytes byte_laws n (freely_reduced_words s) (loaded_freely_reduced s) 63 (reduced-short s) (length (run_moves s n) - d)))
+  backward-runs : run_rules true (run_words s n) (run_log s n) ≡ Ok tt
+  backward-runs = run_accepts true (run_words s n) (run_log s n) (rw left_length log_passes)
+      (λ d.
+      rw (log_of-moves (freely_reduced_words s) (run_moves s n))
+      (backward_way_within bytes byte_laws n (freely_reduced_words s) (loaded_freely_reduced s) 63 (reduced-short s) (length (run_moves s n) - d)))
+      (tells_backward (freely_reduced_words s) (run_moves s n) (rw (words-length s) log_passes) back_way)
+
+  -- each log record tells of its move
+  record_tells : (j : ℕ) → j < length (run_moves s n) → Tells (made_all bytes (freely_reduced_words s) (take j (run_moves s n))) (logged_at (run_log s n) j)
+  record_tells j h =
+      let m : Move = move_at (run_log s n) j in
+      let before : List (List ℕ) = made_all bytes (freely_reduced_words s) (take j (run_moves s n)) in
+      let freely = made_all-freely_reduced bytes byte_laws (freely_reduced_words s) (take j (run_moves s n)) (loaded_freely_reduced s) in
+      let told : logged_at (run_log s n) j ≡ logged before m = explained_record (freely_reduced_words s) (run_moves s n) j h (move_at [] 0) in
+      let more : next bytes before ≡ Some m =
+      moves_next bytes n (freely_reduced_words s) j (move_at [] 0) h
+      ∙ ap Some (sym (record_move (freely_reduced_words s) (run_moves s n) j h (move_at [] 0))) in
+      rw told (record {
+        by_shortening = by_shortening bytes byte_laws before freely m more;
+        by_half_end = by_half_end bytes byte_laws before freely m more;
+        shorter = rule_shortens bytes byte_laws before freely m more;
+        new_length = refl;
+      })
 
   -- and backward it comes to the given words, freely reduced
   backward_gives_lem : undone_all bytes (run_words s n) (run_moves s n) ≡ freely_reduced_words s
@@ -157,43 +190,46 @@ module _ (s : List ℕ) (n : ℕ) (system : system_rules s ≡ Ok tt) where
   left_passes = system_passes (run_words s n) left_letters (left_short s n) (rw (left_length s n) (system-few s system))
 
   -- replay takes the log forward from the given system and backward from the system left
-  replay_forward : (room : ℕ) → slots s * 64 ≤ room → replay_rules s (log_of (run_moves s n)) false room ≡ Ok tt
+  replay_forward : (room : ℕ) → slots s * 64 ≤ room → replay_rules s (run_log s n) false room ≡ Ok tt
   replay_forward room h =
-      replay_accepts s (log_of (run_moves s n)) false room system (log_passes s n) h (forward-runs s n)
+      replay_accepts s (run_log s n) false room system (log_passes s n) h (forward-runs s n)
 
-  replay_backward : (room : ℕ) → slots s * 64 ≤ room → replay_rules (bytes_of (run_words s n)) (log_of (run_moves s n)) true room ≡ Ok tt
+  replay_backward : (room : ℕ) → slots s * 64 ≤ room → replay_rules (bytes_of (run_words s n)) (run_log s n) true room ≡ Ok tt
   replay_backward room h =
-      replay_accepts (bytes_of (run_words s n)) (log_of (run_moves s n)) true room left_passes (rw (left_slots s n) (log_passes s n))
+      replay_accepts (bytes_of (run_words s n)) (run_log s n) true room left_passes (rw (left_slots s n) (log_passes s n))
       (rw (left_slots s n) h) (rw left_words (backward-runs s n))
 
   -- the bytes written of a run that has come to its end are what reduce must give
   run-reduces : (v : Verdict) → next bytes (run_words s n) ≡ None
-      → Reduces s (bytes_of (run_words s n)) (log_of (run_moves s n)) (reduction_of (Ok tt) v (freely_reduced_words s) n)
+      → Reduces s (bytes_of (run_words s n)) (run_log s n) (reduction_of (Ok tt) v (freely_reduced_words s) n)
   run-reduces v ended =
       record {
         well_formed = left_passes;
         freely_reduced = rw left_back (left_freely_reduced s n);
         reduced = rw left_back (left_reduced s n ended);
-        moves = log_of-moves (run_moves s n) ∙ sym (moves_again bytes n (freely_reduced_words s));
+        moves = log_of-moves (freely_reduced_words s) (run_moves s n) ∙ sym (moves_again bytes n (freely_reduced_words s));
         no_more_moves = ap (λ (ms : List Move). next bytes (made_all bytes (freely_reduced_words s) ms)) (moves_again bytes n (freely_reduced_words s)) ∙ ended;
-        count = ap length (sym (log_of-moves (run_moves s n)));
+        count = ap length (sym (log_of-moves (freely_reduced_words s) (run_moves s n)));
         equivalent = rw left_back (left_equivalent s n);
         rank = ap rank (sym left_back);
         independent = left_independent s n ended;
         none_blank = ap none_blank (sym left_back);
         forward = replay_forward;
-        forward_gives = rw (log_of-moves (run_moves s n)) (sym left_back);
+        forward_gives = rw (log_of-moves (freely_reduced_words s) (run_moves s n)) (sym left_back);
         backward = replay_backward;
-        backward_gives = rw (log_of-moves (run_moves s n), left_words) (backward_gives_lem s n);
+        tells = λ j h. rw (log_of-moves (freely_reduced_words s) (run_moves s n)) (record_tells s n j h);
+        backward_gives = rw (log_of-moves (freely_reduced_words s) (run_moves s n), left_words) (backward_gives_lem s n);
       }
 
 -- a call that ran over the words of a system, as reduce and member do: what it logged
-logged_moves : (s log log' : List ℕ) (tests : Checked) → tests ≡ Ok tt → log' ≡ log_after tests (freely_reduced_words s) (room_for log) log
-    → take (length (run_moves s (room_for log)) * move_size) log' ≡ log_of (run_moves s (room_for log))
-logged_moves s log log' tests passed logged =
-    let new : log' ≡ written (log_of (run_moves s (room_for log))) log =
-    logged ∙ ap (λ (c : Checked). on_fine c (written (log_of (run_moves s (room_for log))) log) log) passed in
-    ap (take (length (run_moves s (room_for log)) * move_size)) new ∙ written-take (log_of (run_moves s (room_for log))) log _ (log_of-length (run_moves s (room_for log)))
+log_holds : (s log log' : List ℕ) (tests : Checked) → tests ≡ Ok tt → log' ≡ log_after tests (freely_reduced_words s) (room_for log) log
+    → take (length (run_moves s (room_for log)) * move_size) log' ≡ run_log s (room_for log)
+log_holds s log log' tests passed logged =
+    let new : log' ≡ written (run_log s (room_for log)) log = logged ∙ ap (λ (c : Checked). on_fine c (written (run_log s (room_for log)) log) log) passed in
+    let size : length (run_log s (room_for log)) ≡ length (run_moves s (room_for log)) * move_size =
+    log_of-length (logged_moves s (room_for log))
+    ∙ ap (λ (k : ℕ). k * move_size) (explained-length (freely_reduced_words s) (run_moves s (room_for log))) in
+    ap (take (length (run_moves s (room_for log)) * move_size)) new ∙ written-take (run_log s (room_for log)) log _ size
 
 -- and where it passed its tests and 13
 module _ (s log : List ℕ) (tests : Checked) (passed : run_tests tests (freely_reduced_words s) (room_for log) ≡ Ok tt) where
@@ -219,7 +255,7 @@ module _ (s log : List ℕ) (tests : Checked) (passed : run_tests tests (freely_
   ran_reduces system v a words words' log' answered wrote logged =
       let told : a ≡ reduction_of (Ok tt) v (freely_reduced_words s) (room_for log) =
       answered ∙ ap (λ (c : Checked). reduction_of c v (freely_reduced_words s) (room_for log)) passed in
-      rw (told, ran_words words words' wrote, logged_moves s log log' tests ran_tests logged) (run-reduces s (room_for log) system v ran_ended)
+      rw (told, ran_words words words' wrote, log_holds s log log' tests ran_tests logged) (run-reduces s (room_for log) system v ran_ended)
 
 -- it passes where its tests do and the moves have room
 pub enough_passes : (s log : List ℕ) (tests : Checked) (enough : ℕ) → tests ≡ Ok tt → EnoughMoves s enough → enough * move_size ≤ length log
@@ -257,7 +293,7 @@ module _ (s log : List ℕ) (tests : Checked) (passed : tests ≡ Ok tt) (enough
 
   pub short_means : (v : Verdict) → refusal_number v ≡ 0 → (a : Reduction) (log' : List ℕ)
       → a ≡ reduction_of (run_tests tests (freely_reduced_words s) (room_for log)) v (freely_reduced_words s) (room_for log)
-      → log' ≡ log_after tests (freely_reduced_words s) (room_for log) log → LogShort (run_moves s enough) log log' a
+      → log' ≡ log_after tests (freely_reduced_words s) (room_for log) log → LogShort (logged_moves s enough) log log' a
   short_means v unrefused a log' answered logged =
       let told : a ≡ reduction_of (must (stopped (run_words s (room_for log))) LogBufferShort 0) v (freely_reduced_words s) (room_for log) =
       answered ∙ ap (λ (c : Checked). reduction_of (run_tests c (freely_reduced_words s) (room_for log)) v (freely_reduced_words s) (room_for log)) passed in
@@ -266,12 +302,14 @@ module _ (s log : List ℕ) (tests : Checked) (passed : tests ≡ Ok tt) (enough
       λ e. stopped_fit.0 (stops.0 (rw told at e)) in
       let first : run_moves s (room_for log) ≡ take (room_for log) (run_moves s enough) =
       moves-first bytes enough (room_for log) (freely_reduced_words s) ended in
+      let same : length (logged_moves s enough) ≡ length (run_moves s enough) = explained-length (freely_reduced_words s) (run_moves s enough) in
       record {
-        refused = (over, λ h. rw told (stops.1 (stopped_fit.1 h)));
+        refused = (λ e. rw same (over e), λ h. rw told (stops.1 (stopped_fit.1 (rw same at h))));
         first_that_fit =
             λ e.
             let count : length (run_moves s (room_for log)) ≡ room_for log = ap length first ∙ length-take-le (room_for log) (run_moves s enough) (omega (arith, over e)) in
-            ap (λ (k : ℕ). take (k * move_size) log') (sym count) ∙ logged_moves s log log' tests passed logged ∙ ap log_of first;
+            ap (λ (k : ℕ). take (k * move_size) log') (sym count) ∙ log_holds s log log' tests passed logged
+            ∙ ap log_of (ap (explained (freely_reduced_words s)) first ∙ explained_first (room_for log) (freely_reduced_words s) (run_moves s enough));
       }
 
 -- reduce: a call that is done has passed its tests

@@ -1,17 +1,19 @@
 -- What the answers of reduce and test mean, over the lent buffers alone: the second demand of docs/REQUIREMENTS.md.
 use Rattle.std.specs.Prelude.{ℕ, ◌*◌, ◌≤◌, ◌<◌, ◌≡◌, ◌↔◌, true, false, List, length, take}
-use Rattle.std.specs.Prelude.{None}
+use Rattle.std.specs.Prelude.{None, Some}
 use Rattle.words.specs.Alphabet.{bytes}
-use Rattle.systems.specs.declared.Move.{Move}
-use Rattle.systems.specs.Products.{FreelyReduced, Equivalent, Independent}
+use Rattle.systems.specs.declared.Rule.TheVariants.{HalfEnd, Shortening}
+use Rattle.systems.specs.Moves.{moved_word}
+use Rattle.systems.specs.Products.{FreelyReduced, Equivalent, Independent, word}
 use Rattle.systems.specs.Reduced.{Reduced}
-use Rattle.systems.specs.Rules.{next, moves_within, run_within}
+use Rattle.systems.specs.Rules.{half_end, moves_within, next, run_within, shortening}
 use Rattle.systems.specs.Rank.{none_blank, rank}
 use Rattle.slots.specs.Systems.{slots, system_of, freely_reduced_words}
 use Rattle.slots.specs.Refusals.{system_rules}
 use Rattle.records.specs.Answers.{refusal_number}
 use Rattle.records.specs.declared.answers.Verdict.TheVariants.{Done}
-use Rattle.moves.specs.Logs.{log_of, move_size, moves_in}
+use Rattle.moves.specs.Logs.{explained, log_of, logged_at, move_size, moves_in}
+use Rattle.moves.specs.declared.log.Logged.{Logged}
 use Rattle.replay.specs.Replay.{replay_rules, replayed}
 use Rattle.runs.specs.Runs.{room_for}
 use Rattle.reduction.specs.declared.answers.Reduction.{Reduction}
@@ -21,6 +23,21 @@ use Rattle.std.specs.Prelude.{Ok}
 -- neither rule applies after so many moves on the freely reduced words of a system
 abbrev pub EnoughMoves : List ℕ → ℕ → Type 0
 EnoughMoves given n = next bytes (run_within bytes n (freely_reduced_words given)) ≡ None
+
+-- the moves that the rules make on these words, at most n of them, as they are logged
+abbrev pub logged_moves : List ℕ → ℕ → List Logged
+logged_moves given n = explained (freely_reduced_words given) (moves_within bytes n (freely_reduced_words given))
+
+-- what a log record tells of its move, made on the words S
+pub record Tells (S : List (List ℕ)) (told : Logged) : Type 0 where
+  -- "s for shortening": the first that there is
+  pub by_shortening : told.rule ≡ Shortening → shortening bytes S ≡ Some told.made
+  -- "or h for half-end": the first of these, "only when nothing shortens"
+  pub by_half_end : told.rule ≡ HalfEnd → (shortening bytes S ≡ None) × (half_end bytes S ≡ Some told.made)
+  -- so it is s exactly where the changed word gets shorter
+  pub shorter : (told.rule ≡ Shortening) ↔ (length (moved_word bytes S told.made) < length (word bytes S told.made.changed))
+  -- "the changed word's new length"
+  pub new_length : told.new_length ≡ length (moved_word bytes S told.made)
 
 -- reduce: the given system, the reduced system W and the log L that were written, and the answer
 pub record Reduces (given W L : List ℕ) (answer : Reduction) : Type 0 where
@@ -32,6 +49,8 @@ pub record Reduces (given W L : List ℕ) (answer : Reduction) : Type 0 where
   -- "The moves are those of the rules below, in that order": the log holds those that the rules make, and after them neither rule applies
   pub moves : moves_in L ≡ moves_within bytes answer.moves (freely_reduced_words given)
   pub no_more_moves : EnoughMoves given answer.moves
+  -- each log record tells which rule made its move, on the words that the moves before it leave, and how long its word is afterwards
+  pub tells : (j : ℕ) → j < answer.moves → Tells (replayed false (freely_reduced_words given) (take j (moves_in L))) (logged_at L j)
   -- "it is the length of that list"
   pub count : answer.moves ≡ length (moves_in L)
   -- "equivalent to the given one"
@@ -49,9 +68,10 @@ pub record Reduces (given W L : List ℕ) (answer : Reduction) : Type 0 where
   pub backward : (room : ℕ) → slots given * 64 ≤ room → replay_rules W L true room ≡ Ok tt
   pub backward_gives : replayed true (freely_reduced_words W) (moves_in L) ≡ freely_reduced_words given
 
--- refusal 13, where no earlier one applies, of all the moves that the rules make, the log that was lent and what it holds afterwards
-pub record LogShort (moves : List Move) (log log' : List ℕ) (answer : Reduction) : Type 0 where
-  -- "The moves number more than a quarter of the log buffer's length, rounded down."
+-- refusal 13, where no earlier one applies, of all the moves that the rules make, as they are logged, the log that was lent and what it
+-- holds afterwards
+pub record LogShort (moves : List Logged) (log log' : List ℕ) (answer : Reduction) : Type 0 where
+  -- "The moves number more than an eighth of the log buffer's length, rounded down."
   pub refused : (refusal_number answer.verdict ≡ 13) ↔ (room_for log < length moves)
   -- "Under 13 the log holds, as whole records, the first moves that fit"
   pub first_that_fit : refusal_number answer.verdict ≡ 13 → take (room_for log * move_size) log' ≡ log_of (take (room_for log) moves)
@@ -64,7 +84,7 @@ pub record ReduceMeans (given words log : List ℕ) (answer : Reduction) (words'
   pub done : system_rules given ≡ Ok tt → slots given * 64 ≤ length words
       → (enough : ℕ) → EnoughMoves given enough → enough * move_size ≤ length log → answer.verdict ≡ Done
   pub log_short : system_rules given ≡ Ok tt → slots given * 64 ≤ length words
-      → (enough : ℕ) → EnoughMoves given enough → LogShort (moves_within bytes enough (freely_reduced_words given)) log log' answer
+      → (enough : ℕ) → EnoughMoves given enough → LogShort (logged_moves given enough) log log' answer
   pub reduces : answer.verdict ≡ Done → Reduces given (take (slots given * 64) words') (take (answer.moves * move_size) log') answer
 
 -- test: yes exactly when the freely reduced words are reduced

@@ -5,24 +5,23 @@ use mathlib.Core.List.{List, [], ◌++◌, ◌∷◌}
 use mathlib.Core.Path.{◌∙◌, ◌≡◌, ap, ap₂, sym}
 use native.Mathlib.Numerals.{add-one}
 use native.Mathlib.Omega.{arith}
-use lib.Dec.{leb}
 use lib.ListN.{drop, get_or, length, take}
 use lib.Seq.{take_all, take-suc}
 use Rattle.words.specs.Alphabet.{bytes}
 use Rattle.words.proofs.Below.{below_at, below-drop, below_length}
-use Rattle.systems.specs.Moves.{made, made_all, moved_word, undone_all}
+use Rattle.systems.specs.Moves.{made, made_all, undone_all}
 use Rattle.systems.specs.declared.Move.{Move}
 use Rattle.systems.proofs.Undoing.{made_all-length, made_all-snoc, undone_all-length}
-use Rattle.records.specs.Refusals.{each_below, must}
+use Rattle.records.specs.Refusals.{each_below}
 use Rattle.records.specs.declared.answers.Refusal.{Refusal}
-use Rattle.records.proofs.Chains.{each_fail, each_pass, must_passed}
+use Rattle.records.proofs.Chains.{each_fail, each_pass}
 use Rattle.std.specs.Option.{IsSome}
 use Rattle.std.specs.Prelude.{None, Option, Some, is_some}
 use Rattle.std.specs.Simd.{first_chunks}
-use Rattle.moves.specs.Logs.{log_rules, move_at, move_size, moves_in, read_move}
+use Rattle.moves.specs.Logs.{log_rules, logged_at, move_at, move_size, moves_in, read_move}
+use Rattle.moves.specs.declared.log.Logged.{Logged}
 use Rattle.moves.proofs.Logging.{passed_read}
-use Rattle.replay.specs.Replay.{directed, place_at, ran_before, replayed, run_rules, turn_rule}
-use Rattle.records.specs.declared.refusals.Reason.TheVariants.{WordTooLong}
+use Rattle.replay.specs.Replay.{directed, move_rules, place_at, ran_before, replayed, run_rules, turn_rule}
 use Rattle.std.specs.Prelude.{Err, Ok}
 use Rattle.records.specs.Refusals.{Checked}
 
@@ -65,9 +64,9 @@ module _ (log : List ℕ) (S : List (List ℕ)) where
   module _ (backward : Bool) (d : ℕ) (T : List (List ℕ)) (here : T ≡ replayed backward S (ran_before backward (moves_in log) d))
       (count : ℕ) (counted : count ≡ length log / move_size) where
     -- the move of a turn stands in its place of a log that passed its tests
-    module _ (n at : ℕ) (parts : List (List ℕ)) (e : List ℕ) {r : Option Move} (fine : log_rules (length S) log ≡ Ok tt) (slots : n ≡ length T)
+    module _ (n at : ℕ) (parts : List (List ℕ)) (e : List ℕ) {r : Option Logged} (fine : log_rules (length S) log ≡ Ok tt) (slots : n ≡ length T)
         (cut : parts ≡ first_chunks move_size (length log / move_size) log) (placed : at < count) (read : r ≡ read_move n (get_or parts at e)) where
-      turn_reads : r ≡ Some (move_at log at)
+      turn_reads : r ≡ Some (logged_at log at)
       turn_reads =
           let same : n ≡ length S = slots ∙ ap length here ∙ turn_length backward (ran_before backward (moves_in log) d) in
           read ∙ passed_read n log at parts e (rw same fine) cut (omega (arith, placed, counted))
@@ -75,39 +74,41 @@ module _ (log : List ℕ) (S : List (List ℕ)) where
       pub turn_found : IsSome r
       turn_found = ap is_some turn_reads
 
-      pub turn_move : (m : Move) → r ≡ Some m → m ≡ move_at log at
-      turn_move m told = ap (λ (o : Option Move). elim o [ None ↦ m | Some u ↦ u ]) (sym told ∙ turn_reads)
+      pub turn_move : (l : Logged) → r ≡ Some l → l ≡ logged_at log at
+      turn_move l told = ap (λ (o : Option Logged). elim o [ None ↦ l | Some k ↦ k ]) (sym told ∙ turn_reads)
 
-    -- it is tried
-    module _ (at : ℕ) (m u : Move) {t : Bool} (place : at ≡ place_at backward count d) (read : m ≡ move_at log at)
-        (turned : u ≡ directed backward m) (tried : t ≡ leb (length (moved_word bytes T u)) 63) (inside : d < count) where
+    -- it is run
+    module _ (at : ℕ) (l : Logged) (place : at ≡ place_at backward count d) (read : l ≡ logged_at log at) (inside : d < count) where
       turn_place : at ≡ place_at backward (length log / move_size) d
       turn_place = place ∙ ap (λ (i : ℕ). place_at backward i d) counted
 
       turn_inside : d < length log / move_size
       turn_inside = omega (arith, inside, counted)
 
-      same_move : u ≡ directed backward (move_at log (place_at backward (length log / move_size) d))
-      same_move = turned ∙ ap (directed backward) (read ∙ ap (move_at log) turn_place)
+      turn_same : l ≡ logged_at log (place_at backward (length log / move_size) d)
+      turn_same = read ∙ ap (logged_at log) turn_place
 
-      turn_told : must t WordTooLong (at + 1) ≡ turn_rule backward S log d
+      turn_told : move_rules backward T l (at + 1) ≡ turn_rule backward S log d
       unfolding turn_rule
       turn_told =
-          ap₂ (λ (b : Bool) (i : ℕ). must b WordTooLong (i + 1))
-          (tried ∙ ap₂ (λ (U : List (List ℕ)) (v : Move). leb (length (moved_word bytes U v)) 63) here same_move) turn_place
+          ap₂ (λ (U : List (List ℕ)) (k : Logged). move_rules backward U k (at + 1)) here turn_same
+          ∙ ap
+          (λ (i : ℕ). move_rules backward (replayed backward S (ran_before backward (moves_in log) d)) (logged_at log (place_at backward (length log / move_size) d)) (i + 1))
+          turn_place
 
-      module _ {x : Checked} (e : x ≡ must t WordTooLong (at + 1)) where
+      module _ {x : Checked} (told : x ≡ move_rules backward T l (at + 1)) where
         module _ (passed : each_below (turn_rule backward S log) d ≡ Ok tt) where
           pub turn_fails : {f : Refusal} → x ≡ Err f → x ≡ run_rules backward S log
-          turn_fails long = each_fail (turn_rule backward S log) d passed (length log / move_size) turn_inside (e ∙ turn_told) long
+          turn_fails long = each_fail (turn_rule backward S log) d passed (length log / move_size) turn_inside (told ∙ turn_told) long
 
           pub turn_passes : x ≡ Ok tt → each_below (turn_rule backward S log) (d + 1) ≡ Ok tt
-          turn_passes short = each_pass (turn_rule backward S log) d passed (e ∙ turn_told) short
+          turn_passes short = each_pass (turn_rule backward S log) d passed (told ∙ turn_told) short
 
-        pub turn_makes : (T' : List (List ℕ)) → (t ≡ true → T' ≡ made bytes T u) → x ≡ Ok tt
+        pub turn_makes : (T' : List (List ℕ)) → (x ≡ Ok tt → T' ≡ made bytes T (directed backward l.made)) → x ≡ Ok tt
             → T' ≡ replayed backward S (ran_before backward (moves_in log) (d + 1))
         turn_makes T' done short =
-            done (must_passed t WordTooLong (at + 1) e short) ∙ ap₂ (made bytes) here same_move ∙ sym (turn_next backward d turn_inside)
+            done short ∙ ap₂ (λ (U : List (List ℕ)) (k : Logged). made bytes U (directed backward k.made)) here turn_same
+            ∙ sym (turn_next backward d turn_inside)
 
     -- no move is left
     pub turn_end : count ≤ d → d ≤ count → T ≡ replayed backward S (moves_in log)

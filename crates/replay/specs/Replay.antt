@@ -1,6 +1,6 @@
 -- Replay: "a system and anybody's log in, the system after it out. The words are freely reduced first, and so is each result; a blank slot
 -- counts as the empty word. Backward undoes the last move first."
-use Rattle.std.specs.Prelude.{ℕ, ◌+◌, ◌-◌, ◌*◌, ◌/◌, Bool, cond, List, length, take, drop, leb}
+use Rattle.std.specs.Prelude.{ℕ, ◌+◌, ◌-◌, ◌*◌, ◌/◌, Bool, cond, List, length, take, drop, eqb, leb}
 use Rattle.words.specs.Alphabet.{bytes}
 use Rattle.systems.specs.Moves.{undo, moved_word, made_all, undone_all}
 use Rattle.systems.specs.declared.Move.{Move}
@@ -10,8 +10,10 @@ use Rattle.records.specs.Answers.{answer_of, on_fine}
 use Rattle.records.specs.declared.answers.Answer.{Answer}
 use Rattle.records.specs.Refusals.{must, ◌and_then◌, each_below}
 use Rattle.slots.specs.Refusals.{system_rules, word_room}
-use Rattle.moves.specs.Logs.{move_size, move_at, moves_in, log_rules}
-use Rattle.records.specs.declared.refusals.Reason.TheVariants.{WordTooLong}
+use Rattle.moves.specs.Logs.{move_size, logged_at, moves_in, log_rules}
+use Rattle.moves.specs.declared.log.Logged.{Logged}
+use Rattle.systems.specs.Products.{word}
+use Rattle.records.specs.declared.refusals.Reason.TheVariants.{LengthDiffers, WordTooLong}
 use Rattle.records.specs.Refusals.{Checked}
 
 -- the moves run one way or the other: the system after them
@@ -34,12 +36,22 @@ directed backward m = cond backward (undo m) m
 abbrev pub fits : List (List ℕ) → Move → Bool
 fits S m = leb (length (moved_word bytes S m)) 63
 
+-- the word after the move that a log record tells of: forward the one that is made, "backward the slot's word before the undoing"
+abbrev pub word_after : Bool → List (List ℕ) → Move → List ℕ
+word_after backward S m = cond backward (word bytes S m.changed) (moved_word bytes S m)
+
 -- 12. "A move in replay .. freely reduces to more than 63 letters", its place being "the move's number in the log, the log's first being 1
--- whichever way it is run"
+-- whichever way it is run". Then 22 with the same number, for a log record whose length differs.
+abbrev pub move_rules : Bool → List (List ℕ) → Logged → ℕ → Checked
+move_rules backward S l number =
+    let m : Move = directed backward l.made in
+    must (fits S m) WordTooLong number and_then must (eqb l.new_length (length (word_after backward S m))) LengthDiffers number
+
+-- so in turn d
 unfoldable pub turn_rule : Bool → List (List ℕ) → List ℕ → ℕ → Checked
 turn_rule backward S log d =
     let place : ℕ = place_at backward (length log / move_size) d in
-    must (fits (replayed backward S (ran_before backward (moves_in log) d)) (directed backward (move_at log place))) WordTooLong (place + 1)
+    move_rules backward (replayed backward S (ran_before backward (moves_in log) d)) (logged_at log place) (place + 1)
 
 -- on all turns
 abbrev pub run_rules : Bool → List (List ℕ) → List ℕ → Checked
@@ -49,7 +61,7 @@ run_rules backward S log = each_below (turn_rule backward S log) (length log / m
 unfoldable pub replay_tests : List ℕ → List ℕ → ℕ → Checked
 replay_tests s log room = system_rules s and_then log_rules (slots s) log and_then word_room (slots s * 64) room
 
--- and then 12
+-- and then 12 and 22
 unfoldable pub replay_rules : List ℕ → List ℕ → Bool → ℕ → Checked
 replay_rules s log backward room = replay_tests s log room and_then run_rules backward (freely_reduced_words s) log
 

@@ -2,10 +2,13 @@
 #![tactic(auto)]
 
 ghost use Rattle.std.specs.Prelude.{◌<◌, ◌≡◌, Ok, length};
+ghost use Rattle.words.specs.Alphabet.{bytes};
+ghost use Rattle.systems.specs.Moves.{made};
+ghost use Rattle.moves.specs.Found.{Between};
 ghost use Rattle.moves.specs.Logs.{log_rules, moves_in};
-ghost use Rattle.replay.specs.Replay.{place_at, replay_answer, replay_buffer, replay_tests, replayed, run_rules, directed as directed_move};
+ghost use Rattle.replay.specs.Replay.{move_rules, place_at, replay_answer, replay_buffer, replay_tests, replayed, run_rules, directed as directed_move};
 
-use moves::log::{MOVE, check_log, read_move};
+use moves::log::{Logged, MOVE, check_log, read_move};
 use moves::make::make_move;
 use records::answers::{Answer, Refusal, check_that};
 use records::record::RECORD;
@@ -49,7 +52,7 @@ fn check_replay(system: &[u8], log: &[u8], room: usize) -> Result<(), Refusal>
     check_room(n * RECORD, room)
 }
 
-// Runs the moves of a log, the first one first, or undoes them, the last one first, with refusal 12.
+// Runs the moves of a log, the first one first, or undoes them, the last one first, with refusals 12 and 22.
 fn run(log: &[u8], backward: bool, system: &mut System) -> Result<(), Refusal>
     requires valid { log_rules (length system.old) log.now ≡ Ok tt }
     ensures rules { result ≡ run_rules backward system.old log.now }
@@ -58,17 +61,38 @@ fn run(log: &[u8], backward: bool, system: &mut System) -> Result<(), Refusal>
     let (log_records, _) = log.as_chunks::<MOVE>();
     for done in 0..log_records.len() {
         let at = place_at(backward, log_records.len(), done);
-        let m = read_move(system.len(), &log_records[at]).unwrap();
-        let fitted = check_that(
-            make_move(system, directed(backward, m)),
-            Reason::WordTooLong,
-            at + 1,
-        );
-        let Ok(()) = fitted else {
-            return fitted;
+        let logged = read_move(system.len(), &log_records[at]).unwrap();
+        let moved = run_move(system, backward, logged, at + 1);
+        let Ok(()) = moved else {
+            return moved;
         };
     }
     Ok(())
+}
+
+// Makes or undoes one move of a log, with refusal 12 and then 22 by its number there.
+fn run_move(
+    system: &mut System,
+    backward: bool,
+    logged: Logged,
+    number: usize,
+) -> Result<(), Refusal>
+    requires { Between (length system.old) logged.made }
+    ensures rules { result ≡ move_rules backward system.old logged number }
+    ensures made { result ≡ Ok tt → system.new ≡ made bytes system.old (directed_move backward logged.made) }
+{
+    let m = directed(backward, logged.made);
+    let before = system.word(m.changed).len();
+    let fitted = check_that(make_move(system, m), Reason::WordTooLong, number);
+    let Ok(()) = fitted else {
+        return fitted;
+    };
+    let after = if backward {
+        before
+    } else {
+        system.word(m.changed).len()
+    };
+    check_that(logged.new_length == after, Reason::LengthDiffers, number)
 }
 
 // Where the next move stands in the log when some of them are done.

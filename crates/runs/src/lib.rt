@@ -5,26 +5,26 @@ ghost use Rattle.std.specs.Prelude.{◌≡◌, ◌≤◌, length};
 ghost use Rattle.words.specs.Alphabet.{bytes};
 ghost use Rattle.words.specs.Buffers.{written};
 ghost use Rattle.systems.specs.Rules.{moves_within, run_within};
-ghost use Rattle.moves.specs.Logs.{log_of};
+ghost use Rattle.moves.specs.Logs.{explained, log_of};
 ghost use Rattle.runs.specs.Runs.{FoundNext, ran, room_for};
 
 use half_ends::find_half_end;
 use marks::Search;
-use moves::log::{MOVE, write_move};
+use moves::log::{Logged, MOVE, write_move};
 use shortening::find_shortening;
-use systems::Move;
+use systems::{Found, Rule};
 
-// The next move of the rules: a shortening, or else a half-end move.
-pub fn find_move(search: &mut Search) -> Option<Move>
+// The next move of the rules, with its rule: a shortening, or else a half-end move.
+pub fn find_move(search: &mut Search) -> Option<Found>
     ensures found { FoundNext search.old result }
     ensures few { length search.old ≤ 16 }
     ensures same { search.new ≡ search.old }
 {
-    let found = find_shortening(search);
-    let None = found else {
-        return found;
+    let shortening = Rule::Shortening.with(find_shortening(search));
+    let None = shortening else {
+        return shortening;
     };
-    find_half_end(search.system())
+    Rule::HalfEnd.with(find_half_end(search.system()))
 }
 
 // Runs the moves as far as the log has room for them, and answers how many were made: Ok where neither rule applies any more, and Err where
@@ -32,15 +32,21 @@ pub fn find_move(search: &mut Search) -> Option<Move>
 pub fn run(search: &mut Search, log: &mut [u8]) -> Result<usize, usize>
     ensures moves { result ≡ ran (room_for log.old) search.old }
     ensures words { search.new ≡ run_within bytes (room_for log.old) search.old }
-    ensures log { log.new ≡ written (log_of (moves_within bytes (room_for log.old) search.old)) log.old }
+    ensures log { log.new ≡ written (log_of (explained search.old (moves_within bytes (room_for log.old) search.old))) log.old }
 {
     let room = log.len() / MOVE;
     for used in 0..room {
-        let Some(m) = find_move(search) else {
+        let Some(found) = find_move(search) else {
             return Ok(used);
         };
-        write_move(log, used, m);
-        search.advance(m);
+        let made = found.next;
+        search.advance(made);
+        let logged = Logged {
+            made,
+            rule: found.rule,
+            new_length: search.system().words().word(made.changed).len(),
+        };
+        write_move(log, used, logged);
     }
     match find_move(search) {
         None => Ok(room),

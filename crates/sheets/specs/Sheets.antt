@@ -166,7 +166,7 @@ outcome given log reduced rank independent =
 
 -- P5 and P6 have the same words, and so have P9 and P10
 abbrev pub three_words : Outcome
-three_words = outcome ("ab" ∷ "ac" ∷ "Bd" ∷ []) ("c1a" ∷ []) ("ab" ∷ "ac" ∷ "ad" ∷ []) 3 true
+three_words = outcome ("ab" ∷ "ac" ∷ "Bd" ∷ []) ("c1a h02" ∷ []) ("ab" ∷ "ac" ∷ "ad" ∷ []) 3 true
 
 abbrev pub no_words : Outcome
 no_words = outcome [] [] [] 0 true
@@ -179,18 +179,18 @@ abbrev pub sheets : List Sheet
 sheets =
     tidies "P1" "aAbBc" "c"
     ∷ tidies "P2" "abBA" ""
-    ∷ member "P3" (outcome ("ab" ∷ "b" ∷ []) ("a4b" ∷ []) ("a" ∷ "b" ∷ []) 2 true) "a" "a"
-    ∷ member "P4" (outcome ("aa" ∷ "aaa" ∷ []) ("a2b" ∷ "b1a" ∷ "b1a" ∷ "a1b" ∷ []) ("" ∷ "a" ∷ []) 1 false) "a" "b"
+    ∷ member "P3" (outcome ("ab" ∷ "b" ∷ []) ("a4b s01" ∷ []) ("a" ∷ "b" ∷ []) 2 true) "a" "a"
+    ∷ member "P4" (outcome ("aa" ∷ "aaa" ∷ []) ("a2b s01" ∷ "b1a s02" ∷ "b1a s01" ∷ "a1b s00" ∷ []) ("" ∷ "a" ∷ []) 1 false) "a" "b"
     ∷ member "P5" three_words "Cd" "Bc"
     ∷ not_member "P6" three_words "d"
     ∷ member "P7" (outcome ("a" ∷ "BAc" ∷ "dbb" ∷ []) [] ("a" ∷ "BAc" ∷ "dbb" ∷ []) 3 true) "adbAcACaBD" "acbABC"
     ∷ not_member "P8" (outcome ("ab" ∷ []) [] ("ab" ∷ []) 1 true) "ba"
     ∷ member "P9" no_words "" ""
     ∷ not_member "P10" no_words "a"
-    ∷ member "P11" (outcome ("ab" ∷ "ab" ∷ []) ("a2b" ∷ []) ("" ∷ "ab" ∷ []) 1 false) "abab" "bb"
+    ∷ member "P11" (outcome ("ab" ∷ "ab" ∷ []) ("a2b s00" ∷ []) ("" ∷ "ab" ∷ []) 1 false) "abab" "bb"
     ∷ reduces "P12" (outcome ("aA" ∷ "b" ∷ []) [] ("" ∷ "b" ∷ []) 1 false)
     ∷ reduces "I1" (outcome sixteen_blank [] sixteen_blank 0 false)
-    ∷ reduces "I2" (outcome ("ab" ∷ "" ∷ "b" ∷ []) ("a4c" ∷ []) ("a" ∷ "" ∷ "b" ∷ []) 2 false)
+    ∷ reduces "I2" (outcome ("ab" ∷ "" ∷ "b" ∷ []) ("a4c s01" ∷ []) ("a" ∷ "" ∷ "b" ∷ []) 2 false)
     ∷ asks "A1" ("ab" ∷ "ac" ∷ "ad" ∷ []) "Cd" 64 Member (record_in "Bc")
     ∷ asks "A2" ("ab" ∷ "ac" ∷ "ad" ∷ []) "d" 64 NotMember (lent 64)
     ∷ asks "A3" ("cC" ∷ "aAb" ∷ []) "bcCb" 64 Member (record_in "bb")
@@ -252,7 +252,7 @@ sheets =
     ("moves 1 rank 2 independent yes member yes"
     ∷ "a.............................................................."
     ∷ "b.............................................................."
-    ∷ "a4b"
+    ∷ "a4b s01"
     ∷ "a.............................................................."
     ∷ [])
     ∷ prints "P6" ("ab" ∷ "ac" ∷ "Bd" ∷ "d" ∷ [])
@@ -260,7 +260,7 @@ sheets =
     ∷ "ab............................................................."
     ∷ "ac............................................................."
     ∷ "ad............................................................."
-    ∷ "c1a"
+    ∷ "c1a h02"
     ∷ [])
     ∷ prints "P12" ("aA" ∷ "b" ∷ "b" ∷ [])
     ("moves 0 rank 1 independent no member yes"
