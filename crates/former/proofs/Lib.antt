@@ -3,3 +3,4 @@ pub mod Lengths
 pub mod Calls
 pub mod Program
 pub mod Independence
+pub mod Logs

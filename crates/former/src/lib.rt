@@ -1,3 +1,3 @@
-// The former order of refusals 1 and 2 and the former verdict on independence, and laws that say which answers differ from them.
+// The former order of refusals 1 and 2, verdict on independence and log records, and laws that say which answers differ from them.
 // It holds no code of its own.
 #![tactic(auto)]
