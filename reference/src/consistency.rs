@@ -4,10 +4,12 @@
 use crate::answers::{Answer, DONE, MEMBER, NOT_A_MEMBER};
 use crate::decision::{check_ask, check_member};
 use crate::graph::Graph;
+use crate::logs::{read_log, write_log};
+use crate::made_logs::with_lengths_of_the_run;
 use crate::random::{Kind, Random};
 use crate::records::{freely_reduced, record, RECORD};
-use crate::reduction::{reduction, Reduction};
-use crate::refusals::{Refusal, SYSTEM_NOT_REDUCED, WORD_TOO_LONG};
+use crate::reduction::{first_shortening, next_move, reduction, Reduction};
+use crate::refusals::{Refusal, LENGTH_DIFFERS, SYSTEM_NOT_REDUCED, WORD_TOO_LONG};
 use crate::words::Word;
 use crate::{ask, member, replay, test, tidy, Direction};
 
@@ -161,6 +163,36 @@ fn ask_against_test() {
     assert!(counts[0] > 200 && counts[1] > 200, "{counts:?}");
 }
 
+/// The log of reduce tells for each move whether anything shortened and how long the changed word is.
+#[test]
+fn what_the_log_of_reduce_tells() {
+    let mut random = Random::new(61);
+    let (mut shortenings, mut half_ends) = (0, 0);
+    for _ in 0..1000 {
+        let (given, _) = random_system(&mut random);
+        let mut system = freely_reduced(&given);
+        let words = system.words_mut();
+        let log = String::from_utf8(reduction(&given).log).expect("a log is text");
+        for line in log.lines() {
+            let shortens = first_shortening(words).is_some();
+            let step = next_move(words).expect("the log tells of a move").1;
+            assert!(step.make(words));
+            let length = words[step.changed].len();
+            let letter = if shortens { 's' } else { 'h' };
+            assert_eq!(line[3..], format!(" {letter}{length:02}"));
+            match shortens {
+                true => shortenings += 1,
+                false => half_ends += 1,
+            }
+        }
+        assert_eq!(next_move(words), None);
+    }
+    assert!(
+        shortenings > 2000 && half_ends > 500,
+        "{shortenings} {half_ends}"
+    );
+}
+
 /// Anybody's log, run forward and then backward, leads back to the freely reduced words.
 #[test]
 fn replay_there_and_back() {
@@ -170,23 +202,51 @@ fn replay_there_and_back() {
         let records = random.between(2, 16);
         let generators = random.between(1, 3);
         let given = random.system(Kind::Uniform, generators, records, 0, 10);
-        let mut log = Vec::new();
-        for _ in 0..random.below(12) {
-            let step = random.any_move(records);
-            log.extend_from_slice(&step.record());
-        }
-        let fitting = random.log(freely_reduced(&given).words(), 30);
+        let fitting = random.log(freely_reduced(&given).words(), 30, Direction::Forward);
         let after = replayed(&given, &fitting, Direction::Forward);
         let back = replayed(&after, &fitting, Direction::Backward);
         assert_eq!(back, tidied(&given));
-        let mut after = vec![FILL; given.len()];
-        let answer = replay(&given, &log, Direction::Forward, &mut after);
-        if answer == Answer::done() {
-            done += 1;
-            assert_eq!(replayed(&after, &log, Direction::Backward), tidied(&given));
-        } else {
-            assert_eq!(answer.number, WORD_TOO_LONG);
+        let moves = random.below(12);
+        let log = random.any_log(records, moves);
+        for direction in Direction::BOTH {
+            let log = with_lengths_of_the_run(&given, &log, direction);
+            let mut after = vec![FILL; given.len()];
+            let answer = replay(&given, &log, direction, &mut after);
+            if answer == Answer::done() {
+                done += 1;
+                assert_eq!(replayed(&after, &log, direction.turned()), tidied(&given));
+            } else {
+                assert_eq!(answer.number, WORD_TOO_LONG);
+            }
         }
     }
-    assert!(done > 2000);
+    assert!(done > 4000, "{done}");
+}
+
+/// One length made wrong in a log that runs to its end is found at its own move, in both directions.
+#[test]
+fn one_wrong_length() {
+    let mut random = Random::new(62);
+    let mut refused = 0;
+    for _ in 0..3000 {
+        let records = random.between(2, 16);
+        let generators = random.between(1, 3);
+        let given = random.system(Kind::Uniform, generators, records, 0, 20);
+        for direction in Direction::BOTH {
+            let log = random.log(freely_reduced(&given).words(), 30, direction);
+            let mut told = read_log(&log, records).expect("the log is sound");
+            if told.is_empty() {
+                continue;
+            }
+            let place = random.below(told.len());
+            told[place].length = (told[place].length + random.between(1, 99)) % 100;
+            let mut words = vec![FILL; given.len()];
+            let answer = replay(&given, &write_log(&told), direction, &mut words);
+            let expected = Refusal::new(LENGTH_DIFFERS, place + 1);
+            assert_eq!(answer, Answer::refused(expected));
+            assert_eq!(words, vec![FILL; given.len()]);
+            refused += 1;
+        }
+    }
+    assert!(refused > 5000, "{refused}");
 }

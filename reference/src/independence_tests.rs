@@ -2,6 +2,7 @@
 //! and by finding a relation wherever a slot is blank at the end, and what has changed in it.
 
 use crate::answers::Answer;
+use crate::made_logs::with_lengths_of_the_run;
 use crate::random::{Kind, Random};
 use crate::records::{freely_reduced, record, system, RECORD};
 use crate::reduction::{reduction, Reduction};
@@ -60,8 +61,9 @@ fn no_short_relation_where_independent() {
     assert!(counts.iter().all(|&count| count > 50), "{counts:?}");
 }
 
-/// The log followed from a generator for each slot gives the product over the given slots that each
-/// reduced word is, and that of a blank slot is a relation, so that every dependent system has one.
+/// The moves of the log, followed from a generator for each slot with the lengths that they have there,
+/// give the product over the given slots that each reduced word is, and that of a blank slot is a
+/// relation, so that every dependent system has one.
 #[test]
 fn a_relation_where_dependent() {
     let mut random = Random::new(22);
@@ -70,6 +72,7 @@ fn a_relation_where_dependent() {
         let given = small_system(&mut random);
         let Reduction { answer, words, log } = reduction(&given);
         let generators = system(&["a", "b", "c"][..given.len() / RECORD]);
+        let log = with_lengths_of_the_run(&generators, &log, Direction::Forward);
         let mut products = vec![FILL; given.len()];
         let replayed = replay(&generators, &log, Direction::Forward, &mut products);
         assert_eq!(replayed, Answer::done());

@@ -13,6 +13,8 @@ pub mod factoring;
 pub mod from_numbers;
 pub mod graph;
 pub mod graph_sheets;
+pub mod logs;
+pub mod made_logs;
 pub mod measured;
 pub mod membership;
 pub mod moves;
@@ -50,6 +52,8 @@ mod consistency;
 mod graph_tests;
 #[cfg(test)]
 mod independence_tests;
+#[cfg(test)]
+mod log_tests;
 #[cfg(test)]
 mod number_tests;
 #[cfg(test)]

@@ -3,6 +3,7 @@
 
 use crate::answers::Answer;
 use crate::factoring::verdict;
+use crate::logs::Rule;
 use crate::moves::Move;
 use crate::records::{
     check_room_for_product, check_room_for_words, read_system, read_target_or_product,
@@ -24,7 +25,7 @@ pub fn member(
 
 /// Does what member does with its two inputs and three buffers, by the moves that a search finds.
 pub fn member_by(
-    next_move: impl FnMut(&[Word]) -> Option<Move>,
+    next_move: impl FnMut(&[Word]) -> Option<(Rule, Move)>,
     inputs: [&[u8]; 2],
     buffers: [&mut [u8]; 3],
 ) -> Answer {
@@ -33,7 +34,7 @@ pub fn member_by(
 
 /// Does what member promises, or gives the refusal.
 fn member_or_refuse(
-    next_move: impl FnMut(&[Word]) -> Option<Move>,
+    next_move: impl FnMut(&[Word]) -> Option<(Rule, Move)>,
     [system, target]: [&[u8]; 2],
     [words, log, product]: [&mut [u8]; 3],
 ) -> Result<Answer, Refusal> {

@@ -1,12 +1,6 @@
-//! Moves, their four forms, and the log records of 4 bytes in which they are kept:
-//! slot changed, form digit, other slot, line feed.
+//! Moves and their four forms. A move changes the word in one slot by the word in another one.
 
-use crate::records::slot_named;
-use crate::refusals::{Refusal, LOG_RECORD_MALFORMED, LOG_UNEVEN};
 use crate::words::Word;
-
-/// The length of a log record in bytes.
-pub const LOG_RECORD: usize = 4;
 
 /// What takes the place of w(k): the form of a move that changes slot k by slot i.
 #[derive(Clone, Copy, Debug, PartialEq, Eq)]
@@ -88,35 +82,4 @@ impl Move {
             ..self
         }
     }
-
-    /// The log record of the move.
-    pub fn record(self) -> [u8; LOG_RECORD] {
-        let changed = b'a' + self.changed as u8;
-        let other = b'a' + self.other as u8;
-        [changed, self.form.digit(), other, b'\n']
-    }
-
-    /// The move in a log record, if it is well formed over a system of this many slots.
-    pub fn read(record: &[u8; LOG_RECORD], slots: usize) -> Option<Move> {
-        let &[changed, digit, other, last] = record;
-        let step = Move {
-            changed: slot_named(changed, slots)?,
-            form: Form::with_digit(digit)?,
-            other: slot_named(other, slots)?,
-        };
-        (step.changed != step.other && last == b'\n').then_some(step)
-    }
-}
-
-/// Checks a log by rules 7 and 8 over a system of this many slots, and reads its moves.
-pub fn read_log(log: &[u8], slots: usize) -> Result<Vec<Move>, Refusal> {
-    let (records, rest) = log.as_chunks::<LOG_RECORD>();
-    if !rest.is_empty() {
-        return Err(Refusal::new(LOG_UNEVEN, 0));
-    }
-    let read = |(number, record)| {
-        let malformed = Refusal::new(LOG_RECORD_MALFORMED, LOG_RECORD * number);
-        Move::read(record, slots).ok_or(malformed)
-    };
-    records.iter().enumerate().map(read).collect()
 }

@@ -2,13 +2,13 @@
 //! The last record is the target and the earlier ones are the system.
 
 use crate::answers::{MEMBER, REFUSED};
+use crate::logs::LOG_RECORD;
 use crate::member;
-use crate::moves::LOG_RECORD;
 use crate::records::{LONGEST_SYSTEM, RECORD};
 use crate::refusals::{SYSTEM_TOO_LONG, SYSTEM_UNEVEN, TARGET_OR_PRODUCT_MALFORMED};
 
 /// The most moves that the program's log buffer holds.
-pub const MOST_MOVES: usize = 16_384;
+pub const MOST_MOVES: usize = 8_192;
 /// The most bytes that the program takes, those of the longest system and a target.
 pub const LONGEST_INPUT: usize = LONGEST_SYSTEM + RECORD;
 
@@ -79,10 +79,27 @@ mod tests {
 moves 1 rank 2 independent yes member yes
 a..............................................................
 b..............................................................
-a4b
+a4b s01
 a..............................................................
 ";
         assert_eq!(printed(&["ab", "b", "a"]), expected);
+    }
+
+    /// Log records tell the rule and the new length: those of P4 with their lengths 1, 2, 1 and 0, and
+    /// that of P5, which is a half-end move.
+    #[test]
+    fn lines_of_moves() {
+        let output = printed(&["aa", "aaa", "a"]);
+        let lines: Vec<&str> = output.lines().skip(3).take(4).collect();
+        assert_eq!(lines, ["a2b s01", "b1a s02", "b1a s01", "a1b s00"]);
+        let output = printed(&["ab", "ac", "Bd", "Cd"]);
+        assert_eq!(output.lines().nth(4), Some("c1a h02"));
+    }
+
+    /// The log buffer has 65,536 bytes.
+    #[test]
+    fn length_of_the_log_buffer() {
+        assert_eq!(LOG_RECORD * MOST_MOVES, 65_536);
     }
 
     /// A target that is not a member gets no product, and a target alone has no slots before it.

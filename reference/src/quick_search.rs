@@ -6,6 +6,7 @@
 
 use crate::answers::Answer;
 use crate::asking::ask_by;
+use crate::logs::Rule;
 use crate::membership::member_by;
 use crate::moves::{Form, Move};
 use crate::records::MOST_RECORDS;
@@ -169,17 +170,26 @@ impl Default for Table {
 }
 
 impl Table {
-    /// The next move of the rules, if one applies; the move found before must have been made.
-    fn next_move(&mut self, words: &[Word]) -> Option<Move> {
+    /// The next move of the rules with its rule, if one applies; the move found before must have been
+    /// made.
+    fn next_move(&mut self, words: &[Word]) -> Option<(Rule, Move)> {
         match self.last {
             Some(step) => self.follow(step.changed, &words[step.changed]),
             None => self.form_inverses(words),
         }
-        self.last = self.first_shortening(words).or_else(|| {
-            let inverses = &self.inverses[..words.len()];
-            Slots { words, inverses }.half_end_move()
-        });
-        self.last
+        let shortening = self.first_shortening(words);
+        let found = match shortening {
+            Some(step) => Some((Rule::Shortening, step)),
+            None => self.half_end_move(words).map(|step| (Rule::HalfEnd, step)),
+        };
+        self.last = found.map(|(_, step)| step);
+        found
+    }
+
+    /// The half-end move of a system in which nothing shortens, if a word qualifies.
+    fn half_end_move(&self, words: &[Word]) -> Option<Move> {
+        let inverses = &self.inverses[..words.len()];
+        Slots { words, inverses }.half_end_move()
     }
 
     /// Forms the inverses of all words.
@@ -287,13 +297,12 @@ mod tests {
             let mut system = freely_reduced(&system);
             let mut table = Table::default();
             loop {
-                let shortening = plain::first_shortening(system.words());
-                let step = shortening.or_else(|| plain::half_end_move(system.words()));
-                assert_eq!(table.next_move(system.words()), step);
-                let Some(step) = step else { break };
-                match shortening {
-                    Some(_) => shortenings += 1,
-                    None => half_ends += 1,
+                let found = plain::next_move(system.words());
+                assert_eq!(table.next_move(system.words()), found);
+                let Some((rule, step)) = found else { break };
+                match rule {
+                    Rule::Shortening => shortenings += 1,
+                    Rule::HalfEnd => half_ends += 1,
                 }
                 assert!(step.make(system.words_mut()));
             }

@@ -306,20 +306,4 @@ impl Random {
             other,
         }
     }
-
-    /// A log of at most this many moves, none of which leads to more than 63 letters.
-    pub fn log(&mut self, words: &[Word], moves: usize) -> Vec<u8> {
-        let mut words = words.to_vec();
-        let mut log = Vec::new();
-        if words.len() < 2 {
-            return log;
-        }
-        for _ in 0..moves {
-            let step = self.any_move(words.len());
-            if step.make(&mut words) {
-                log.extend_from_slice(&step.record());
-            }
-        }
-        log
-    }
 }

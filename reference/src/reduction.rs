@@ -3,7 +3,9 @@
 //! every move and remembers nothing.
 
 use crate::answers::Answer;
-use crate::moves::{Form, Move, LOG_RECORD};
+use crate::logs::{LogRecord, Rule, LOG_RECORD};
+use crate::moves::{Form, Move};
+use crate::program::MOST_MOVES;
 use crate::records::{check_room_for_words, read_system, System};
 use crate::refusals::{Refusal, LOG_BUFFER_SHORT};
 use crate::words::Word;
@@ -74,27 +76,31 @@ pub fn half_end_move(words: &[Word]) -> Option<Move> {
     None
 }
 
-/// The next move of the rules, if one applies.
-pub fn next_move(words: &[Word]) -> Option<Move> {
-    first_shortening(words).or_else(|| half_end_move(words))
+/// The next move of the rules with its rule, if one applies: a half-end move only where nothing shortens.
+pub fn next_move(words: &[Word]) -> Option<(Rule, Move)> {
+    if let Some(step) = first_shortening(words) {
+        return Some((Rule::Shortening, step));
+    }
+    half_end_move(words).map(|step| (Rule::HalfEnd, step))
 }
 
 /// Makes the moves that a search finds until it finds none, writes them into the log, and gives the
 /// answer that tells of it.
 pub fn reduce_system(
-    mut next_move: impl FnMut(&[Word]) -> Option<Move>,
+    mut next_move: impl FnMut(&[Word]) -> Option<(Rule, Move)>,
     system: &mut System,
     log: &mut [u8],
 ) -> Result<Answer, Refusal> {
-    let mut records = log.chunks_exact_mut(LOG_RECORD);
+    let mut rooms = log.chunks_exact_mut(LOG_RECORD);
     let mut moves = 0;
-    while let Some(step) = next_move(system.words()) {
-        let record = records.next();
-        let record = record.ok_or(Refusal::new(LOG_BUFFER_SHORT, 0))?;
-        record.copy_from_slice(&step.record());
-        moves += 1;
+    while let Some((rule, step)) = next_move(system.words()) {
+        let room = rooms.next();
+        let room = room.ok_or(Refusal::new(LOG_BUFFER_SHORT, 0))?;
         let fits = step.make(system.words_mut());
         assert!(fits, "a move of the rules makes no word longer");
+        let length = system.words()[step.changed].len();
+        room.copy_from_slice(&LogRecord { step, rule, length }.bytes());
+        moves += 1;
     }
     Ok(Answer {
         moves,
@@ -111,7 +117,7 @@ pub fn reduce(system: &[u8], words: &mut [u8], log: &mut [u8]) -> Answer {
 
 /// Does what reduce does, by the moves that a search finds.
 pub fn reduce_by(
-    next_move: impl FnMut(&[Word]) -> Option<Move>,
+    next_move: impl FnMut(&[Word]) -> Option<(Rule, Move)>,
     system: &[u8],
     words: &mut [u8],
     log: &mut [u8],
@@ -121,7 +127,7 @@ pub fn reduce_by(
 
 /// Does what reduce promises, or gives the refusal.
 fn reduce_or_refuse(
-    next_move: impl FnMut(&[Word]) -> Option<Move>,
+    next_move: impl FnMut(&[Word]) -> Option<(Rule, Move)>,
     system: &[u8],
     words: &mut [u8],
     log: &mut [u8],
@@ -143,8 +149,12 @@ pub struct Reduction {
 /// What reduce makes of a system with room for everything; the words are blank if it is refused.
 pub fn reduction(system: &[u8]) -> Reduction {
     let mut words = vec![0; system.len()];
-    let mut log = vec![0; 1 << 16];
+    let mut log = vec![0; LOG_RECORD * MOST_MOVES];
     let answer = reduce(system, &mut words, &mut log);
+    assert_ne!(
+        answer.number, LOG_BUFFER_SHORT,
+        "there is room for all moves"
+    );
     log.truncate(LOG_RECORD * answer.moves as usize);
     Reduction { answer, words, log }
 }

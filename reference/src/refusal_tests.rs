@@ -1,7 +1,8 @@
 //! Tests of every refusal in every call that can give it: number, place and untouched buffers.
-//! Two faults at once show the order in which they are tried.
+//! Two faults at once show the order in which they are tried. Those of logs are in log_tests.rs.
 
 use crate::answers::{Answer, DONE, MEMBER, NOT_A_MEMBER};
+use crate::logs::LOG_RECORD;
 use crate::records::{record, system};
 use crate::refusals::*;
 use crate::tracing::MOST_EDGES;
@@ -98,7 +99,7 @@ fn telling_lengths() {
         every_call_refuses(&given[..length], number, 0);
     }
     let given = &given[..1024];
-    let (mut words, mut log) = ([FILL; 1024], [FILL; 60]);
+    let (mut words, mut log) = ([FILL; 1024], [FILL; 15 * LOG_RECORD]);
     assert_eq!(tidy(given, &mut words), Answer::done());
     assert_eq!(to_numbers(given, &mut [FILL; 2048]), Answer::done());
     assert_eq!(test(given), Answer::done());
@@ -206,40 +207,6 @@ fn malformed_targets() {
         for given in [system(&["ab", "b"]), system(&["ab", "c"])] {
             assert_eq!(ask(&given, &bytes, &mut []), expected, "{bytes:?}");
         }
-    }
-}
-
-/// Refusals 7 and 8 of replay, before 10.
-#[test]
-fn malformed_logs() {
-    let given = system(&["ab", "b", "c"]);
-    for direction in Direction::BOTH {
-        for length in [1, 2, 3, 5, 6, 7] {
-            let log = &b"a1b?a1b\n"[..length];
-            assert_eq!(
-                replay(&given, log, direction, &mut []),
-                refused(LOG_UNEVEN, 0)
-            );
-        }
-        let bad = [
-            "a1a\n", "a0b\n", "a5b\n", "A1b\n", "a1B\n", "d1a\n", "a1d\n", "a1b.", "q1a\n",
-            "`1a\n", "a1`\n", "\n1ba",
-        ];
-        for record in bad {
-            let log = format!("a1b\nc4a\n{record}a1a\n");
-            let answer = replay(&given, log.as_bytes(), direction, &mut []);
-            assert_eq!(answer, refused(LOG_RECORD_MALFORMED, 8), "{record:?}");
-        }
-        assert_eq!(
-            replay(&[], b"a1b\n", direction, &mut []),
-            refused(LOG_RECORD_MALFORMED, 0)
-        );
-        assert_eq!(replay(&[], b"", direction, &mut []), Answer::done());
-        let one = record("ab");
-        assert_eq!(
-            replay(&one, b"a1b\n", direction, &mut []),
-            refused(LOG_RECORD_MALFORMED, 0)
-        );
     }
 }
 
@@ -372,7 +339,7 @@ fn systems_asked_about_themselves() {
     assert_eq!(ask(&[], &[], &mut []), expected);
 }
 
-/// Refusals 10 and 11, with 10 before 11 and both before 12 and 13.
+/// Refusals 10 and 11, with 10 before 11 and both before 12, 13 and 22.
 #[test]
 fn short_buffers() {
     let given = system(&["ab", "b"]);
@@ -385,7 +352,7 @@ fn short_buffers() {
         member(&given, &target, &mut words[..127], &mut [], &mut []),
         refused_words
     );
-    let log = b"a1b\n".repeat(100);
+    let log = b"a1b s00\n".repeat(100);
     for direction in Direction::BOTH {
         assert_eq!(
             replay(&given, &log, direction, &mut words[..127]),
@@ -399,23 +366,6 @@ fn short_buffers() {
     assert_eq!(answer, refused(PRODUCT_BUFFER_SHORT, 0));
     assert_eq!(words, [FILL; 128]);
     assert_eq!(product, [FILL; 63]);
-}
-
-/// Refusal 12 of replay with the move's number, whichever way the log is run.
-#[test]
-fn too_long_in_replay() {
-    let given = system(&[&"a".repeat(60), "a"]);
-    let mut words = [FILL; 128];
-    let log = b"a1b\na3b\na3b\na3b\na3b\n";
-    let answer = replay(&given, log, Direction::Forward, &mut words);
-    assert_eq!(answer, refused(WORD_TOO_LONG, 4));
-    let log = b"a4b\na4b\na4b\na4b\na2b\n";
-    let answer = replay(&given, log, Direction::Backward, &mut words);
-    assert_eq!(answer, refused(WORD_TOO_LONG, 2));
-    assert_eq!(words, [FILL; 128]);
-    let answer = replay(&given, &log[4..16], Direction::Backward, &mut words);
-    assert_eq!(answer, Answer::done());
-    assert_eq!(words, system(&[&"a".repeat(63), "a"])[..]);
 }
 
 /// Refusal 12 of multiply looks at the final word alone.
@@ -438,40 +388,6 @@ fn too_long_in_multiply() {
     let answer = multiply(&given, &record("ab"), &mut word);
     assert_eq!(answer, Answer::done());
     assert_eq!(word, record(format!("{}c", "ab".repeat(31))));
-}
-
-/// Refusal 13 keeps the moves that fitted and touches nothing else.
-#[test]
-fn short_log_keeps_what_fitted() {
-    let given = system(&["aa", "aaa"]);
-    let whole = b"a2b\nb1a\nb1a\na1b\n";
-    for length in 0..24 {
-        let (mut words, mut product) = ([FILL; 128], [FILL; 64]);
-        let mut log = vec![FILL; length];
-        let mut other_log = vec![FILL; length];
-        let answer = reduce(&given, &mut words, &mut log);
-        let mut same_words = [FILL; 128];
-        let member_answer = member(
-            &given,
-            &record("a"),
-            &mut same_words,
-            &mut other_log,
-            &mut product,
-        );
-        let kept = 4 * (length / 4).min(4);
-        assert_eq!(log[..kept], whole[..kept]);
-        assert!(log[kept..].iter().all(|&byte| byte == FILL));
-        assert_eq!(log, other_log);
-        if length < 16 {
-            assert_eq!(answer, refused(LOG_BUFFER_SHORT, 0));
-            assert_eq!(member_answer, refused(LOG_BUFFER_SHORT, 0));
-            assert_eq!((words, product), ([FILL; 128], [FILL; 64]));
-        } else {
-            assert_eq!(answer.numbers(), [DONE, 0, 0, 4, 1, 0, 0]);
-            assert_eq!(product, record("b"));
-        }
-        assert_eq!(words, same_words);
-    }
 }
 
 /// Show and the empty part that stands for refusal 14.

@@ -21,6 +21,9 @@ pub const EXPONENT_OUT_OF_RANGE: u64 = 18;
 pub const NUMBERS_MALFORMED: u64 = 19;
 pub const NUMBER_WITHOUT_LETTER: u64 = 20;
 pub const EDGE_TABLE_SHORT: u64 = 21;
+pub const LENGTH_DIFFERS: u64 = 22;
+/// The highest number of a refusal.
+pub const HIGHEST: u64 = LENGTH_DIFFERS;
 
 /// A refusal's number and place.
 #[derive(Clone, Copy, Debug, PartialEq, Eq)]

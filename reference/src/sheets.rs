@@ -49,7 +49,7 @@ pub const SHEETS: [Sheet; 16] = [
         name: "P3",
         given: &["ab", "b"],
         target: Target::Member("a", "a"),
-        log: Some("a4b\n"),
+        log: Some("a4b s01\n"),
         reduced: Some(&["a", "b"]),
         rank: Some(2),
         independent: Some(true),
@@ -58,7 +58,7 @@ pub const SHEETS: [Sheet; 16] = [
         name: "P4",
         given: &["aa", "aaa"],
         target: Target::Member("a", "b"),
-        log: Some("a2b\nb1a\nb1a\na1b\n"),
+        log: Some("a2b s01\nb1a s02\nb1a s01\na1b s00\n"),
         reduced: Some(&["", "a"]),
         rank: Some(1),
         independent: Some(false),
@@ -67,7 +67,7 @@ pub const SHEETS: [Sheet; 16] = [
         name: "P5",
         given: &["ab", "ac", "Bd"],
         target: Target::Member("Cd", "Bc"),
-        log: Some("c1a\n"),
+        log: Some("c1a h02\n"),
         reduced: Some(&["ab", "ac", "ad"]),
         ..UNSTATED
     },
@@ -75,7 +75,7 @@ pub const SHEETS: [Sheet; 16] = [
         name: "P6",
         given: &["ab", "ac", "Bd"],
         target: Target::NotMember("d"),
-        log: Some("c1a\n"),
+        log: Some("c1a h02\n"),
         reduced: Some(&["ab", "ac", "ad"]),
         ..UNSTATED
     },
@@ -112,7 +112,7 @@ pub const SHEETS: [Sheet; 16] = [
         name: "P11",
         given: &["ab", "ab"],
         target: Target::Member("abab", "bb"),
-        log: Some("a2b\n"),
+        log: Some("a2b s00\n"),
         rank: Some(1),
         independent: Some(false),
         ..UNSTATED
@@ -163,7 +163,7 @@ pub const SHEETS: [Sheet; 16] = [
     Sheet {
         name: "I2",
         given: &["ab", "", "b"],
-        log: Some("a4c\n"),
+        log: Some("a4c s01\n"),
         reduced: Some(&["a", "", "b"]),
         rank: Some(2),
         independent: Some(false),
@@ -172,7 +172,7 @@ pub const SHEETS: [Sheet; 16] = [
     Sheet {
         name: "a slot given blank and one that becomes blank",
         given: &["", "ab", "ab"],
-        log: Some("b2c\n"),
+        log: Some("b2c s00\n"),
         reduced: Some(&["", "", "ab"]),
         rank: Some(1),
         independent: Some(false),
@@ -300,6 +300,7 @@ mod tests {
     use super::*;
     use crate::answers::{Answer, DONE, MEMBER, NOT_A_MEMBER, REFUSED};
     use crate::decision::check_member;
+    use crate::logs::LOG_RECORD;
     use crate::program::program;
     use crate::random::Random;
     use crate::records::{record, system};
@@ -328,7 +329,7 @@ mod tests {
     /// Checks the numbers, words and log of an answer against a sheet.
     fn check_reduction(sheet: &Sheet, answer: Answer, words: &[u8], log: &[u8]) {
         let name = sheet.name;
-        assert_eq!(log.len() as u64, 4 * answer.moves, "{name}");
+        assert_eq!(log.len(), LOG_RECORD * answer.moves as usize, "{name}");
         if let Some(expected) = sheet.log {
             assert_eq!(log, expected.as_bytes(), "{name}");
         }
@@ -354,9 +355,10 @@ mod tests {
             assert_eq!(test(&words).reduced, 1);
             assert_eq!(test(&given).reduced, u64::from(answer.moves == 0));
             let mut after = vec![FILL; given.len()];
-            replay(&given, &log, Direction::Forward, &mut after);
-            assert_eq!(after, words);
-            replay(&words, &log, Direction::Backward, &mut after);
+            let answer = replay(&given, &log, Direction::Forward, &mut after);
+            assert_eq!((answer, &after), (Answer::done(), &words));
+            let answer = replay(&words, &log, Direction::Backward, &mut after);
+            assert_eq!(answer, Answer::done());
             assert_eq!(after, tidied(sheet.given));
         }
     }
@@ -462,21 +464,21 @@ mod tests {
         assert_eq!(tidy(&[], &mut []), Answer::done());
     }
 
-    /// P3 with a log of 3 bytes gets 13, and with 4 bytes passes.
+    /// P3 with a log of 7 bytes gets 13, and with 8 bytes passes.
     #[test]
     fn short_logs() {
         let given = system(&["ab", "b"]);
         let mut words = [FILL; 128];
-        let mut log = [FILL; 4];
+        let mut log = [FILL; 8];
         let mut product = [FILL; 64];
         let target = record("a");
-        let answer = member(&given, &target, &mut words, &mut log[..3], &mut product);
+        let answer = member(&given, &target, &mut words, &mut log[..7], &mut product);
         assert_eq!(answer.numbers(), [REFUSED, LOG_BUFFER_SHORT, 0, 0, 0, 0, 0]);
-        assert_eq!((words, log, product), ([FILL; 128], [FILL; 4], [FILL; 64]));
+        assert_eq!((words, log, product), ([FILL; 128], [FILL; 8], [FILL; 64]));
         let answer = member(&given, &target, &mut words, &mut log, &mut product);
         assert_eq!(answer.numbers(), [MEMBER, 0, 0, 1, 2, 1, 0]);
         assert_eq!(words, system(&["a", "b"])[..]);
-        assert_eq!(&log, b"a4b\n");
+        assert_eq!(&log, b"a4b s01\n");
         assert_eq!(product, record("a"));
     }
 }
