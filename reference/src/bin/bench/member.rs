@@ -4,8 +4,8 @@
 
 use crate::entries::{Entry, MEMBER};
 use crate::timing::{line, time};
+use subgroups_reference::logs::LOG_RECORD;
 use subgroups_reference::measured::Measured;
-use subgroups_reference::moves::LOG_RECORD;
 use subgroups_reference::program::MOST_MOVES;
 use subgroups_reference::quick_search;
 use subgroups_reference::records::{record, MOST_RECORDS, RECORD};

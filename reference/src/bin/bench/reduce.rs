@@ -4,8 +4,8 @@
 
 use crate::entries::{Entry, REDUCE};
 use crate::timing::{line, time, Times};
+use subgroups_reference::logs::LOG_RECORD;
 use subgroups_reference::measured::Measured;
-use subgroups_reference::moves::LOG_RECORD;
 use subgroups_reference::program::MOST_MOVES;
 use subgroups_reference::quick_search;
 use subgroups_reference::random::Random;

@@ -7,10 +7,11 @@ use crate::inputs::{for_each_length, rooms, EVERY_LENGTH, LONG_LENGTHS};
 use crate::lent::{Contents, LentAnswer, Pair};
 use crate::numbers::for_each_length_of_numbers;
 use std::array::from_fn;
-use std::collections::BTreeSet;
+use std::collections::{BTreeMap, BTreeSet};
 use std::process::exit;
 use subgroups_reference::answers::{Answer, REFUSED};
 use subgroups_reference::records::RECORD;
+use subgroups_reference::refusals::HIGHEST;
 
 /// The names of the verdicts, in the order of their numbers.
 const VERDICTS: [&str; 3] = ["done", "member", "not a member"];
@@ -20,7 +21,9 @@ const VERDICTS: [&str; 3] = ["done", "member", "not a member"];
 pub struct Seen {
     pub calls: u64,
     verdicts: [u64; 3],
-    refusals: [u64; 22],
+    refusals: [u64; HIGHEST as usize + 1],
+    /// How many calls there were of each kind, where kinds are told apart.
+    kinds: BTreeMap<String, u64>,
     /// How many systems were reduced.
     pub reduced: u64,
     pub most_moves: u64,
@@ -43,6 +46,9 @@ impl Seen {
 pub type Check<const INPUTS: usize, const BUFFERS: usize> =
     fn([&[u8]; INPUTS], [&[u8]; BUFFERS], Answer) -> Result<(), &'static str>;
 
+/// What kind of call one with these inputs and this answer was.
+pub type KindOfCall<const INPUTS: usize> = fn([&[u8]; INPUTS], Answer) -> String;
+
 /// An entry with its buffers, the answers of the last call, and what was seen so far.
 pub struct Comparison<const INPUTS: usize, const BUFFERS: usize> {
     name: &'static str,
@@ -60,6 +66,8 @@ pub struct Comparison<const INPUTS: usize, const BUFFERS: usize> {
     pub another_check: Option<Check<INPUTS, BUFFERS>>,
     /// The check of calls that were refused.
     pub refusal_check: Option<Check<INPUTS, BUFFERS>>,
+    /// Tells kinds of calls apart, which are counted then.
+    pub kind_of_call: Option<KindOfCall<INPUTS>>,
     pub seen: Seen,
 }
 
@@ -82,6 +90,7 @@ impl<const INPUTS: usize, const BUFFERS: usize> Comparison<INPUTS, BUFFERS> {
             rust: Answer::default(),
             another_check: None,
             refusal_check: None,
+            kind_of_call: None,
             seen: Seen::default(),
         }
     }
@@ -284,12 +293,16 @@ impl<const INPUTS: usize, const BUFFERS: usize> Comparison<INPUTS, BUFFERS> {
             REFUSED => self.refusal_check,
             _ => self.another_check,
         };
+        let inputs = self.inputs.each_ref().map(|pair| pair.rust.part());
         if let Some(check) = check {
-            let inputs = self.inputs.each_ref().map(|pair| pair.rust.part());
             let buffers = self.buffers.each_ref().map(|pair| pair.rust.part());
             if let Err(fault) = check(inputs, buffers, self.rust) {
                 self.end_with(fault);
             }
+        }
+        if let Some(kind_of_call) = self.kind_of_call {
+            let kind = kind_of_call(inputs, self.rust);
+            *self.seen.kinds.entry(kind).or_default() += 1;
         }
         self.seen.calls += 1;
         self.seen.reduced += self.rust.reduced;
@@ -324,6 +337,16 @@ impl<const INPUTS: usize, const BUFFERS: usize> Comparison<INPUTS, BUFFERS> {
         let calls = self.seen.calls;
         println!("{name}: {calls} calls agree ({})", outcomes.join(", "));
         calls
+    }
+
+    /// Says how many calls of each of these kinds agreed, after a look that there were at least this many.
+    pub fn end_kinds(&self, kinds: &[(String, u64)]) {
+        let name = self.name;
+        for (kind, fewest) in kinds {
+            let count = self.seen.kinds.get(kind).copied().unwrap_or(0);
+            assert!(count >= *fewest, "{name} {kind}: only {count} calls");
+            println!("{name} {kind}: {count} calls agree");
+        }
     }
 
     /// Prints the last call with what is wrong and ends the program with a failure. Comparisons run

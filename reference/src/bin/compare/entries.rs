@@ -159,10 +159,7 @@ pub const REPLAY: Entry<3, 1> = Entry {
         );
     },
     rust: |[system, log, backward], [words]| {
-        let direction = match backward[0] {
-            0 => Direction::Forward,
-            _ => Direction::Backward,
-        };
+        let direction = Direction::asked_for_by(backward[0]);
         reference::replay(system, log, direction, words)
     },
 };

@@ -4,6 +4,7 @@
 mod ask;
 mod both_forms;
 mod by_length;
+mod changed_logs;
 mod comparison;
 mod entries;
 mod from_numbers;

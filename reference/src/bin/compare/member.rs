@@ -9,7 +9,7 @@ use crate::in_turn::{check_in_turn, check_refusal, REFUSALS_OF_ASK, REFUSALS_OF_
 use crate::inputs::*;
 use subgroups_reference::answers;
 use subgroups_reference::decision::check_member;
-use subgroups_reference::moves::LOG_RECORD;
+use subgroups_reference::logs::LOG_RECORD;
 use subgroups_reference::random::Random;
 use subgroups_reference::records::{freely_reduced, record, system, MOST_RECORDS, RECORD};
 use subgroups_reference::reduction::reduction;
@@ -32,8 +32,8 @@ pub fn compare() -> u64 {
     calls.refusal_check = Some(check_refusal);
     sheets(calls);
     system_lengths(calls);
-    for_each_malformed_system(|system| call_letters(calls, system, b"abA", 1000));
-    for_each_two_faults(|system| call_letters(calls, system, b"c", 40));
+    for_each_malformed_system(|system| call_letters(calls, system, b"abA", 250 * LOG_RECORD));
+    for_each_two_faults(|system| call_letters(calls, system, b"c", 10 * LOG_RECORD));
     refusals_in_order(calls);
     buffer_lengths(calls);
     target_lengths(calls);
@@ -97,7 +97,7 @@ fn sheets(calls: &mut Member) {
 /// Systems of every length, with sound and with refused targets and with short buffers.
 fn system_lengths(calls: &mut Member) {
     calls.walk_lengths(|calls, system| {
-        call_letters(calls, system, b"aa", 100);
+        call_letters(calls, system, b"aa", 25 * LOG_RECORD);
         calls.call([system, &record("aa")], [system.len() / 2, 0, RECORD - 1]);
         calls.call([system, b"aa"], [0, 0, 0]);
     });
@@ -105,12 +105,13 @@ fn system_lengths(calls: &mut Member) {
 
 /// Faults of the system, the target and the three buffers, two and more at once.
 fn refusals_in_order(calls: &mut Member) {
+    const LOG: usize = 100 * LOG_RECORD;
     let mut targets = vec![record("").to_vec(), Vec::new()];
     targets.extend(sound_and_refused_records("aab"));
     for system in sound_and_refused_systems() {
         for target in &targets {
             for words in rooms(system.len()) {
-                for (log, product) in [(0, 0), (0, RECORD), (400, RECORD - 1), (400, RECORD)] {
+                for (log, product) in [(0, 0), (0, RECORD), (LOG, RECORD - 1), (LOG, RECORD)] {
                     calls.call([&system, target], [words, log, product]);
                 }
             }

@@ -5,7 +5,7 @@ use crate::comparison::Comparison;
 use crate::entries::REDUCE;
 use crate::inputs::*;
 use subgroups_reference::answers::DONE;
-use subgroups_reference::moves::LOG_RECORD;
+use subgroups_reference::logs::LOG_RECORD;
 use subgroups_reference::random::{Kind, Random};
 use subgroups_reference::records::{system, MOST_RECORDS};
 use subgroups_reference::reduction::reduction;
@@ -23,12 +23,12 @@ pub fn compare() -> u64 {
         calls.call_with_all_rooms([&system], lengths_needed(&system));
     }
     calls.walk_lengths(|calls, system| {
-        calls.call([system], [system.len(), 100]);
+        calls.call([system], [system.len(), 25 * LOG_RECORD]);
         calls.call([system], [system.len(), 0]);
         calls.call([system], [system.len() / 2, 0]);
     });
-    for_each_malformed_system(|system| calls.call([system], [system.len(), 1000]));
-    for_each_two_faults(|system| calls.call([system], [system.len(), 40]));
+    for_each_malformed_system(|system| calls.call([system], [system.len(), 250 * LOG_RECORD]));
+    for_each_two_faults(|system| calls.call([system], [system.len(), 10 * LOG_RECORD]));
     for system in sound_and_refused_systems() {
         calls.call_with_all_rooms([&system], lengths_needed(&system));
     }
@@ -58,7 +58,7 @@ fn lengths_needed(system: &[u8]) -> [usize; 2] {
 /// Compares calls with every length of the log from 0 to a little more than needed.
 fn call_with_all_logs(calls: &mut Reduce, system: &[u8]) {
     let [words, log] = lengths_needed(system);
-    for length in 0..log + 10 {
+    for length in 0..=log + LOG_RECORD + 2 {
         calls.call([system], [words, length]);
     }
 }
@@ -89,7 +89,7 @@ fn log_lengths(calls: &mut Reduce) {
     for generators in GENERATORS {
         for _ in 0..60 {
             let given = random.system_to_reduce(generators);
-            if lengths_needed(&given)[1] < 400 {
+            if lengths_needed(&given)[1] < 70 * LOG_RECORD {
                 call_with_all_logs(calls, &given);
             }
         }

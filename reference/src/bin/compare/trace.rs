@@ -11,7 +11,7 @@ use crate::lent::Contents;
 use subgroups_reference::actions::Action;
 use subgroups_reference::answers::{self, Answer, NOT_A_MEMBER, REFUSED};
 use subgroups_reference::graph_sheets::GRAPH_SHEETS;
-use subgroups_reference::moves::LOG_RECORD;
+use subgroups_reference::logs::LOG_RECORD;
 use subgroups_reference::program::MOST_MOVES;
 use subgroups_reference::random::{Kind, Random};
 use subgroups_reference::records::{
