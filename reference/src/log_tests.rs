@@ -66,7 +66,7 @@ fn log_of_p3() {
     }
 }
 
-/// A half-end move that makes a word of 10 letters or more, and shortenings from and to such lengths.
+/// Shortenings to 10, 9 and 62 letters, and a half-end move to 14.
 #[test]
 fn lengths_of_two_digits() {
     let half = "abcdefghij";

@@ -1,6 +1,6 @@
 //! The call replay: follow anybody's log forward from a system, or undo it backward.
-//! The words are freely reduced first, and so is each result. Each move's length after it must be the
-//! one that its log record tells; the letter of the rule is not looked at.
+//! The words are freely reduced first, and so is each result. The length of the changed word after each
+//! move must be the one that its log record tells; the letter of the rule is not looked at.
 
 use crate::answers::Answer;
 use crate::logs::{read_log, LogRecord};

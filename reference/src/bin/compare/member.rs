@@ -36,6 +36,7 @@ pub fn compare() -> u64 {
     for_each_two_faults(|system| call_letters(calls, system, b"c", 10 * LOG_RECORD));
     refusals_in_order(calls);
     buffer_lengths(calls);
+    log_lengths(calls);
     target_lengths(calls);
     one_buffer_for_both(calls);
     let given = system(&["ab", "ac", "Bd"]);
@@ -50,6 +51,8 @@ pub fn compare() -> u64 {
         PRODUCT_BUFFER_SHORT,
         LOG_BUFFER_SHORT,
     ];
+    let short_logs = calls.seen.refused_with(&[LOG_BUFFER_SHORT]);
+    assert!(short_logs > 10_000, "only {short_logs} logs are too short");
     let count = calls.end(&[answers::MEMBER, answers::NOT_A_MEMBER], &refusals);
     say_what_agreed_in_turn(&calls.seen);
     count
@@ -129,6 +132,23 @@ fn buffer_lengths(calls: &mut Member) {
         for target in [member.unwrap_or(record("aA")), record("abcabc")] {
             for buffer in 0..3 {
                 calls.call_with_every_length([given, &target], lengths_needed(given), buffer);
+            }
+        }
+    }
+}
+
+/// Every length of the log from 0 to a little more than needed, on the worked sheets and on random systems.
+fn log_lengths(calls: &mut Member) {
+    let mut random = Random::new(804);
+    let mut systems = sheet_systems();
+    for generators in GENERATORS {
+        systems.extend((0..20).map(|_| random.system_to_reduce(generators)));
+    }
+    for given in systems {
+        let [words, log, product] = lengths_needed(&given);
+        if log < 70 * LOG_RECORD {
+            for length in 0..=log + LOG_RECORD + 2 {
+                calls.call([&given, &record("ab")], [words, length, product]);
             }
         }
     }

@@ -47,6 +47,8 @@ pub fn compare() -> u64 {
     log_lengths(calls);
     random_systems(calls);
     assert!(calls.seen.most_moves > 700, "no system needs many moves");
+    let short_logs = calls.seen.refused_with(&[LOG_BUFFER_SHORT]);
+    assert!(short_logs > 40_000, "only {short_logs} logs are too short");
     calls.end(&[DONE], &[WORDS_BUFFER_SHORT, LOG_BUFFER_SHORT])
 }
 

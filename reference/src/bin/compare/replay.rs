@@ -84,7 +84,7 @@ fn how_far(moves: u64) -> &'static str {
 /// The direction of a call that was not refused for its system, its outcome, and how far its log was run
 /// before.
 fn kind_of_call([_, log, backward]: [&[u8]; 3], answer: Answer) -> String {
-    let direction = Direction::asked_for_by(backward[0]);
+    let direction = direction(backward);
     let moves = (log.len() / LOG_RECORD) as u64;
     let far = match (answer.number, direction) {
         (0, _) => how_far(moves),
@@ -112,17 +112,10 @@ fn kinds_expected() -> Vec<(String, u64)> {
             (10, 1_000, 5_000, 15_000),
         ] {
             let far = how_far(moves);
-            kinds.extend([
-                (
-                    format!("{direction:?}, refused {WORD_TOO_LONG} {far}"),
-                    too_long,
-                ),
-                (
-                    format!("{direction:?}, refused {LENGTH_DIFFERS} {far}"),
-                    differs,
-                ),
-                (format!("{direction:?}, done {far}"), done),
-            ]);
+            let refused = |number| format!("{direction:?}, refused {number} {far}");
+            kinds.push((refused(WORD_TOO_LONG), too_long));
+            kinds.push((refused(LENGTH_DIFFERS), differs));
+            kinds.push((format!("{direction:?}, done {far}"), done));
         }
     }
     kinds
