@@ -79,8 +79,8 @@ int main(void) {
     expect_member(SUBGROUPS_TARGET_OR_PRODUCT_MALFORMED, "target or product malformed", sizeof words, sizeof moves, sizeof product);
     put_record(target, "a");
 
-    expect_replay(SUBGROUPS_LOG_UNEVEN, "log uneven", "a4b");
-    expect_replay(SUBGROUPS_LOG_RECORD_MALFORMED, "log record malformed", "a4b\nb1c\n");
+    expect_replay(SUBGROUPS_LOG_UNEVEN, "log uneven", "a4b s01");
+    expect_replay(SUBGROUPS_LOG_RECORD_MALFORMED, "log record malformed", "a4b s01\nb1c s02\n");
 
     put_record(product, "aBc");
     subgroups_multiply(system_of_two, 2 * SUBGROUPS_RECORD, product, sizeof product, words, sizeof words, &answer);
@@ -93,7 +93,7 @@ int main(void) {
     subgroups_multiply(longest, sizeof longest, product, sizeof product, words, sizeof words, &answer);
     expect(SUBGROUPS_WORD_TOO_LONG, "word too long", &answer);
 
-    expect_member(SUBGROUPS_LOG_BUFFER_SHORT, "log buffer short", sizeof words, 3, sizeof product);
+    expect_member(SUBGROUPS_LOG_BUFFER_SHORT, "log buffer short", sizeof words, SUBGROUPS_MOVE - 1, sizeof product);
 
     subgroups_ask(system_of_two, 2 * SUBGROUPS_RECORD, target, sizeof target, product, sizeof product, &answer);
     expect(SUBGROUPS_SYSTEM_NOT_REDUCED, "system not reduced", &answer);
@@ -107,5 +107,7 @@ int main(void) {
 
     subgroups_trace(system_of_two, 2 * SUBGROUPS_RECORD, target, sizeof target, table, SUBGROUPS_EDGES - 1, &answer);
     expect(SUBGROUPS_EDGE_TABLE_SHORT, "edge table short", &answer);
+
+    expect_replay(SUBGROUPS_LENGTH_DIFFERS, "length differs", "a4b s02\n");
     return wrong;
 }

@@ -25,16 +25,18 @@
  * Products   A product over the slots of a system is a record too: a slot's letter stands for its word, the capital for the
  *            inverse of its word. Over the slots ab, ac, ad the product Bc is the inverse of ac, then ad: it comes to Cd.
  *
- * Logs       A log is log records of 4 bytes, one for each move, the first move first, with no header and no end mark. Slots are
+ * Logs       A log is log records of 8 bytes, one for each move, the first move first, with no header and no end mark. Slots are
  *            named by their small letters, a to p, and a move has two different ones:
  *
- *                byte   0               1         2             3
- *                a4b    slot changed    form      other slot    \n
+ *                byte       0               1       2             3        4         5, 6          7
+ *                a4b s01    slot changed    form    other slot    space    s or h    new length    \n
  *
  *            With w the word of the slot changed and v that of the other slot, form 1 makes it v w, form 2 the inverse of v,
- *            then w, form 3 w v, and form 4 w, then the inverse of v; the result is freely reduced.
+ *            then w, form 3 w v, and form 4 w, then the inverse of v; the result is freely reduced. The letter is s where the
+ *            move is a shortening and h where it is a half-end move, which keeps the length; the two digits are the length of
+ *            the changed word after the move, 00 where it is blank.
  *
- * Buffers    words needs 64 bytes for each record of the system, product and word 64, log 4 for each move, the text of
+ * Buffers    words needs 64 bytes for each record of the system, product and word 64, log 8 for each move, the text of
  *            write_text 256, the numbers of to_numbers, and tidied, 128 for each record, and table 1,008 edges, which are
  *            counted as edges and not as bytes. A longer buffer does no harm: bytes after the last one written stay as they
  *            were, but for those of table after an answer. A refusal changes nothing but the answer, and the length
@@ -106,7 +108,7 @@
  *                                 words, sizeof words, log, sizeof log, product, sizeof product, &answer);
  *
  *            answer.verdict is SUBGROUPS_MEMBER, answer.moves 1, answer.rank 2, answer.independent 1; words holds the
- *            records of a and b, log the 4 bytes "a4b\n", product the record of a. So the target is the word of slot a. */
+ *            records of a and b, log the 8 bytes "a4b s01\n", product the record of a. So the target is the word of slot a. */
 #ifndef SUBGROUPS_H
 #define SUBGROUPS_H
 
@@ -121,7 +123,7 @@ enum {
     SUBGROUPS_RECORD = 64,          /* the bytes of a record */
     SUBGROUPS_LETTERS = 63,         /* the most letters of a word */
     SUBGROUPS_SLOTS = 16,           /* the most records of a system */
-    SUBGROUPS_MOVE = 4,             /* the bytes of a log record, which is one move */
+    SUBGROUPS_MOVE = 8,             /* the bytes of a log record, which is one move */
     SUBGROUPS_TEXT = 256,           /* the most bytes of a text to read, and the room that write_text asks for */
     SUBGROUPS_NUMBERS_RECORD = 128, /* the bytes of a record of numbers */
     SUBGROUPS_EDGES = 1008,         /* the edges that trace asks for */
@@ -150,10 +152,10 @@ enum subgroups_refusal {
     SUBGROUPS_LETTER_AFTER_STOP = 5,           /* a letter stands after a full stop; place: the first such in the system */
     SUBGROUPS_TARGET_OR_PRODUCT_MALFORMED = 6, /* target, product, or the word to write as text, is not 64 bytes long or breaks
                                                   3, 4 or 5; place: the first failing byte in it, 0 where its length is wrong */
-    SUBGROUPS_LOG_UNEVEN = 7,                  /* the length of the log to replay is not a multiple of 4 */
-    SUBGROUPS_LOG_RECORD_MALFORMED = 8,        /* a log record is not slot letter, digit 1 to 4, slot letter, line feed, with
-                                                  two different slots that the system has; place: the first byte of the first
-                                                  such in the log */
+    SUBGROUPS_LOG_UNEVEN = 7,                  /* the length of the log to replay is not a multiple of 8 */
+    SUBGROUPS_LOG_RECORD_MALFORMED = 8,        /* a log record is not slot letter, digit 1 to 4, slot letter, space, s or h, two
+                                                  digits, line feed, with two different slots that the system has; place: the
+                                                  first byte of the first such in the log */
     SUBGROUPS_SLOT_MISSING = 9,                /* the product names a slot that the system does not have; place: the first
                                                   such letter in the product */
     SUBGROUPS_WORDS_BUFFER_SHORT = 10,         /* words, word, numbers or tidied has no room for the output, or the
@@ -176,7 +178,10 @@ enum subgroups_refusal {
                                                   number's first byte */
     SUBGROUPS_NUMBER_WITHOUT_LETTER = 20,      /* from_numbers: a number is above 26 or below -26; place: the first such
                                                   number's first byte */
-    SUBGROUPS_EDGE_TABLE_SHORT = 21            /* the table has fewer than 1,008 edges */
+    SUBGROUPS_EDGE_TABLE_SHORT = 21,           /* the table has fewer than 1,008 edges */
+    SUBGROUPS_LENGTH_DIFFERS = 22              /* replay: a log record's two digits are not the length of the changed word
+                                                  after its move; tested at each move after 12; place: the move's number
+                                                  in the log, counted from 1 */
 };
 
 /* The answer of a call. number and place are those of a refusal; what a call does not give is 0, and under a refusal all that
@@ -206,7 +211,9 @@ void subgroups_reduce(const uint8_t *system, size_t system_len, uint8_t *words, 
                       uint8_t *log, size_t log_len, subgroups_answer *answer);
 
 /* Writes the words of a system after the moves of a log, forward where backward is 0, and otherwise undone, the last first. The
- * words are freely reduced first; moves may name blank slots. Refusals 2, 1, 3 to 5, 7, 8, 10 and 12. */
+ * words are freely reduced first; moves may name blank slots. The length in each log record must be that of the changed word
+ * after the move: forward the word that the move makes, backward the one that is there before the undoing. The letter may be
+ * either at every move. Refusals 2, 1, 3 to 5, 7, 8 and 10, and then at each move 12 and 22. */
 void subgroups_replay(const uint8_t *system, size_t system_len, const uint8_t *log, size_t log_len,
                       uint8_t backward, uint8_t *words, size_t words_len, subgroups_answer *answer);
 
