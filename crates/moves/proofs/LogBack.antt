@@ -9,6 +9,7 @@ use lib.Dec.{leb}
 use lib.ListN.{drop, get_or, length, length-append}
 use lib.Seq.{drop_at, drop-cons, drop-drop, drop-nil, ext_get_or, get_or-drop}
 use borrow.Author.Tests.{le-leb, lt-ltb, ne_eqb}
+use Rattle.words.specs.Below.{below}
 use Rattle.words.proofs.Below.{below_at, below_length}
 use Rattle.systems.specs.declared.Form.{Form}
 use Rattle.systems.specs.declared.Rule.{Rule}
@@ -21,7 +22,7 @@ use Rattle.systems.specs.Moves.{form_digit}
 use Rattle.systems.specs.Rules.{form_at, rule_letter}
 use Rattle.records.specs.Refusals.{each_below}
 use Rattle.records.proofs.Chains.{each_passes, must_pass}
-use Rattle.moves.specs.Logs.{is_move, is_rule, log_of, log_record, log_rules, logged_at, logged_in, move_rule, move_size, named_rule, names_slot, number_in}
+use Rattle.moves.specs.Logs.{is_move, is_rule, log_of, log_record, log_rules, logged_at, move_rule, move_size, named_rule, names_slot, number_in}
 use Rattle.moves.proofs.Logging.{log_even}
 use Rattle.records.specs.declared.refusals.Reason.TheVariants.{LogRecordMalformed}
 use Rattle.std.specs.Prelude.{Ok}
@@ -127,6 +128,9 @@ module _ (ls : List Logged) (j : ℕ) (inside : j < length ls) (d : Logged) wher
   log_of_valid n h = is_move_here n (log_of ls) j ∙ ap (λ (l : List ℕ). is_move n l 0) rest_of_log ∙ record_valid n (get_or ls j d) (log_of (drop (suc j) ls)) h
 
 -- reading back what was written: the log of a list of moves holds that list, with all that it says of them
+abbrev pub logged_in : List ℕ → List Logged
+logged_in log = below (logged_at log) (length log / move_size)
+
 pub log_of-logged : (ls : List Logged) → logged_in (log_of ls) ≡ ls
 log_of-logged ls =
     let d : Logged = logged_at [] 0 in

@@ -61,12 +61,9 @@ length_at log j = number_in (get_or log (j * move_size + 5) 0) (get_or log (j * 
 abbrev pub logged_at : List ℕ → ℕ → Logged
 logged_at log j = record { made = move_at log j; rule = named_rule (get_or log (j * move_size + 4) 0); new_length = length_at log j }
 
--- the moves in a log, and all that it says of them
+-- the moves in a log
 abbrev pub moves_in : List ℕ → List Move
 moves_in log = below (move_at log) (length log / move_size)
-
-abbrev pub logged_in : List ℕ → List Logged
-logged_in log = below (logged_at log) (length log / move_size)
 
 -- a byte names one of the first n slots
 abbrev pub names_slot : ℕ → ℕ → Bool

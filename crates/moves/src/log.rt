@@ -2,8 +2,8 @@
 ghost use Rattle.std.specs.Prelude.{◌&&◌, ◌*◌, ◌+◌, ◌-◌, ◌<◌, ◌≤◌, ◌++◌, ◌≡◌, IfSome, None, Some, cond, drop, leb, length, take};
 ghost use Rattle.std.specs.Char.{is_ascii_digit};
 ghost use Rattle.systems.specs.Rules.{form_at};
-ghost use Rattle.moves.specs.Found.{Between, FoundBelow};
-ghost use Rattle.moves.specs.Logs.{is_rule, log_record, log_rules, move_size, named_rule, names_slot, read_move, number_in};
+ghost use Rattle.moves.specs.Found.{Between};
+ghost use Rattle.moves.specs.Logs.{is_rule, log_record, log_rules, move_size, named_rule, names_slot, number_in, read_move};
 
 use records::answers::{Refusal, check_that};
 use records::refusals::Reason;

@@ -34,8 +34,9 @@ pub record Tells (S : List (List ℕ)) (told : Logged) : Type 0 where
   pub by_shortening : told.rule ≡ Shortening → shortening bytes S ≡ Some told.made
   -- "or h for half-end": the first of these, "only when nothing shortens"
   pub by_half_end : told.rule ≡ HalfEnd → (shortening bytes S ≡ None) × (half_end bytes S ≡ Some told.made)
-  -- so it is s exactly where the changed word gets shorter
-  pub shorter : (told.rule ≡ Shortening) ↔ (length (moved_word bytes S told.made) < length (word bytes S told.made.changed))
+  -- so with s the changed word gets shorter, and with h it keeps its length
+  pub shorter : told.rule ≡ Shortening → length (moved_word bytes S told.made) < length (word bytes S told.made.changed)
+  pub same_length : told.rule ≡ HalfEnd → length (moved_word bytes S told.made) ≡ length (word bytes S told.made.changed)
   -- "the changed word's new length"
   pub new_length : told.new_length ≡ length (moved_word bytes S told.made)
 

@@ -7,6 +7,8 @@ use Rattle.records.specs.Refusals.{letters_rule, record_rules, target_rules}
 use Rattle.slots.specs.Refusals.{system_rules, word_room, system_room}
 use Rattle.slots.specs.Systems.{freely_reduced_words}
 use Rattle.systems.specs.Factoring.{leading}
+use Rattle.moves.specs.Logs.{log_rules, move_rule}
+use Rattle.replay.specs.Replay.{replay_rules, replay_tests, turn_rule}
 use Rattle.asking.specs.Asking.{question_rules, ready_rules}
 use Rattle.membership.specs.Membership.{member_tests}
 use Rattle.syntax.specs.Parse.{tree_of}
@@ -31,7 +33,7 @@ infixr 20 ◌and◌
 a and b = (a, b)
 
 pub sheets_hold : EachSays sheets
-unfolding flip_byte inverse tree_of text_rules shape_rule fits text_word read_tests read_rules write_rules text_of shortening half_end next rule_of leading record_rules letters_rule system_rules word_room freely_reduced_words system_room target_rules question_rules ready_rules member_tests flip_number letter_number number_letter numbers_rules letters_room numbers_system_rules numbers_room as_numbers as_letters tidied_numbers first_to walk traces_back first_fold folded_within trace_tests decimal refusal_line first_line input_rules program_words program_log program_product answer_output program_output
+unfolding flip_byte inverse tree_of text_rules shape_rule fits text_word read_tests read_rules write_rules text_of shortening half_end next rule_of move_rule log_rules turn_rule replay_tests replay_rules leading record_rules letters_rule system_rules word_room freely_reduced_words system_room target_rules question_rules ready_rules member_tests flip_number letter_number number_letter numbers_rules letters_room numbers_system_rules numbers_room as_numbers as_letters tidied_numbers first_to walk traces_back first_fold folded_within trace_tests decimal refusal_line first_line input_rules program_words program_log program_product answer_output program_output
 sheets_hold =
     (refl, refl)
     and (refl, refl)
@@ -47,6 +49,15 @@ sheets_hold =
     and (refl, refl, refl)
     and (refl, refl, refl)
     and (refl, refl, refl)
+    and (refl, refl, refl)
+    and (refl, refl)
+    and (refl, refl)
+    and (refl, refl)
+    and (refl, refl)
+    and (refl, refl)
+    and (refl, refl)
+    and (refl, refl)
+    and (refl, refl)
     and (refl, refl)
     and (refl, refl)
     and (refl, refl)

@@ -12,6 +12,7 @@ use Rattle.reduction.specs.Reduction.{reduce_answer, reduce_words, reduce_log}
 use Rattle.reduction.specs.declared.answers.Reduction.{Reduction}
 use Rattle.asking.specs.Asking.{ask_answer, ask_product}
 use Rattle.membership.specs.Membership.{member_answer, member_log, member_product, member_words}
+use Rattle.replay.specs.Replay.{replay_answer, replay_buffer}
 use Rattle.text.specs.Read.{read_answer, read_buffer}
 use Rattle.text.specs.Write.{write_answer, write_buffer}
 use Rattle.numbers.specs.Calls.{from_numbers_answer, from_numbers_buffer, tidy_numbers_answer, tidy_numbers_buffer, to_numbers_answer, to_numbers_buffer}
@@ -20,7 +21,7 @@ use Rattle.tracing.specs.Tracing.{trace_answer}
 use Rattle.output.specs.Output.{program_output}
 use Rattle.lines.specs.Text.{bytes_in}
 use Rattle.records.specs.declared.refusals.Reason.{Reason}
-use Rattle.records.specs.declared.refusals.Reason.TheVariants.{EdgeTableShort, ExponentOutOfRange, NestingTooDeep, NumberWithoutLetter, NumbersMalformed, ProductBufferShort, SystemNotReduced, SystemTooLong, SystemUneven, TargetOrProductMalformed, TextMalformed, WordTooLong, WordsBufferShort}
+use Rattle.records.specs.declared.refusals.Reason.TheVariants.{EdgeTableShort, ExponentOutOfRange, LengthDiffers, LogBufferShort, LogRecordMalformed, LogUneven, NestingTooDeep, NumberWithoutLetter, NumbersMalformed, ProductBufferShort, SystemNotReduced, SystemTooLong, SystemUneven, TargetOrProductMalformed, TextMalformed, WordTooLong, WordsBufferShort}
 
 -- the record of a word that is given as text, and the system of several
 abbrev pub record_in : String → List ℕ
@@ -61,6 +62,10 @@ pub data Sheet : Type 0 where
   member : String → Outcome → String → String → Sheet
   -- words, and a target that is not a member
   not_member : String → Outcome → String → Sheet
+  -- words, the length of a log buffer that is too short for the first of their moves
+  short_log : String → List String → ℕ → Sheet
+  -- words, a log, whether it is followed backward, the verdict of replay, and the words buffer afterwards
+  replays : String → List String → List String → Bool → Verdict → List ℕ → Sheet
   -- words that are asked, a target, the length of the product buffer, the verdict, and that buffer afterwards
   asks : String → List String → String → ℕ → Verdict → List ℕ → Sheet
   -- a length of a system, and the reason of the refusal that tidy gives to every system of that length
@@ -122,6 +127,13 @@ Says (tidies label given result) =
 Says (reduces label o) = Reduces o
 Says (member label o target product) = Reduces o × Decides o target Member (record_in product)
 Says (not_member label o target) = Reduces o × Decides o target NotMember (lent 64)
+Says (short_log label words room) =
+    (reduce_answer (system_in words) (lent (64 * length words)) (lent room) ≡ record { verdict = refused LogBufferShort; moves = 0; rank = 0; independent = false })
+    × (reduce_words (system_in words) (lent (64 * length words)) (lent room) ≡ lent (64 * length words))
+    × (reduce_log (system_in words) (lent (64 * length words)) (lent room) ≡ lent room)
+Says (replays label words log backward verdict after) =
+    (replay_answer (system_in words) (lines_in log) backward (lent (64 * length words)) ≡ record { verdict = verdict })
+    × (replay_buffer (system_in words) (lines_in log) backward (lent (64 * length words)) ≡ after)
 Says (asks label words target room verdict product) =
     (ask_answer (system_in words) (record_in target) (lent room) ≡ record { verdict = verdict })
     × (ask_product (system_in words) (record_in target) (lent room) ≡ product)
@@ -175,6 +187,10 @@ no_words = outcome [] [] [] 0 true
 abbrev pub sixteen_blank : List String
 sixteen_blank = replicate 16 ""
 
+-- the words of R6
+abbrev pub thirty_two : String
+thirty_two = "aaaaaaaaaaaaaaaaaaaaaaaaaaaaaaaa"
+
 abbrev pub sheets : List Sheet
 sheets =
     tidies "P1" "aAbBc" "c"
@@ -191,6 +207,15 @@ sheets =
     ∷ reduces "P12" (outcome ("aA" ∷ "b" ∷ []) [] ("" ∷ "b" ∷ []) 1 false)
     ∷ reduces "I1" (outcome sixteen_blank [] sixteen_blank 0 false)
     ∷ reduces "I2" (outcome ("ab" ∷ "" ∷ "b" ∷ []) ("a4c s01" ∷ []) ("a" ∷ "" ∷ "b" ∷ []) 2 false)
+    ∷ short_log "I3" ("ab" ∷ "b" ∷ []) 7
+    ∷ replays "R1" ("ab" ∷ "b" ∷ []) ("a4b s01" ∷ []) false Done (system_in ("a" ∷ "b" ∷ []))
+    ∷ replays "R2" ("a" ∷ "b" ∷ []) ("a4b s01" ∷ []) true Done (system_in ("ab" ∷ "b" ∷ []))
+    ∷ replays "R3" ("ab" ∷ "b" ∷ []) ("a4b h01" ∷ []) false Done (system_in ("a" ∷ "b" ∷ []))
+    ∷ replays "R4" ("ab" ∷ "b" ∷ []) ("a4b s02" ∷ []) false (refused_with LengthDiffers 1) (lent 128)
+    ∷ replays "R5" ("a" ∷ "b" ∷ []) ("a4b s02" ∷ []) true (refused_with LengthDiffers 1) (lent 128)
+    ∷ replays "R6" (thirty_two ∷ thirty_two ∷ []) ("a3b s64" ∷ []) false (refused_with WordTooLong 1) (lent 128)
+    ∷ replays "R7" ("ab" ∷ "b" ∷ []) ("a4b s01" ∷ "a4b s 2" ∷ []) false (refused_with LogRecordMalformed 8) (lent 128)
+    ∷ replays "R8" ("ab" ∷ "b" ∷ []) ("a4b" ∷ []) false (refused LogUneven) (lent 128)
     ∷ asks "A1" ("ab" ∷ "ac" ∷ "ad" ∷ []) "Cd" 64 Member (record_in "Bc")
     ∷ asks "A2" ("ab" ∷ "ac" ∷ "ad" ∷ []) "d" 64 NotMember (lent 64)
     ∷ asks "A3" ("cC" ∷ "aAb" ∷ []) "bcCb" 64 Member (record_in "bb")

@@ -1,8 +1,7 @@
--- The next move with its rule: it is the next move, and the rule is the one that finds it. A shortening shortens its word strictly, and a half-end
--- move keeps its length.
+-- The next move with its rule: it is the next move, and the rule is the one that finds it.
 use Prim.Native.Nat.{◌<◌, suc, zero, ℕ}
 use mathlib.Core.List.{List}
-use mathlib.Core.Logic.{◌↔◌, inl, inr}
+use mathlib.Core.Logic.{inl, inr}
 use mathlib.Core.Path.{◌∙◌, ◌≡◌, ap, refl, sym}
 use native.Mathlib.Omega.{arith}
 use lib.ListN.{get_or, length, take}
@@ -43,13 +42,15 @@ module _ {A : Type 0} (G : Alphabet A) (S : List (List A)) where
     unfolding found_next
     found_first e =
         let some = option_map-some _ (shortening G S) (sym told ∙ e) in
-        told ∙ ap (with_rule Shortening) (some.1 ∙ sym (next-shortening G S some.0 some.1)) ∙ ap (λ (r : Rule). with_rule r (next G S)) (sym (rule_shortening some.0 some.1))
+        told ∙ ap (with_rule Shortening) (some.1 ∙ sym (next-shortening G S some.0 some.1))
+        ∙ ap (λ (r : Rule). with_rule r (next G S)) (sym (rule_shortening some.0 some.1))
 
     pub found_then : {found : Option Found} → tried ≡ None → found ≡ with_rule HalfEnd (half_end G S) → found ≡ found_next G S
     unfolding found_next
     found_then e given =
         let nothing = option_map-none _ (shortening G S) (sym told ∙ e) in
-        given ∙ ap (with_rule HalfEnd) (sym (next-half_end G S nothing)) ∙ ap (λ (r : Rule). with_rule r (next G S)) (sym (rule_half_end nothing))
+        given ∙ ap (with_rule HalfEnd) (sym (next-half_end G S nothing))
+        ∙ ap (λ (r : Rule). with_rule r (next G S)) (sym (rule_half_end nothing))
 
   -- and is the next move
   pub found_next-none : is_none (found_next G S) ≡ is_none (next G S)
@@ -86,7 +87,7 @@ moves_next G (suc n) S (suc j) d h = elim (option_cases (next G S)) [
       rw (moves_more G n S r.0 r.1) (moves_next G n (made G S r.0) j d (omega (arith, h, more)))
 ]
 
--- the rule of a move is the one that finds it, and it is a shortening exactly where the word gets shorter
+-- the rule of a move is the one that finds it: a shortening makes its word shorter, and a half-end move keeps its length
 module _ {A : Type 0} (G : Alphabet A) (L : AlphabetLaws G) (S : List (List A)) (freely : FreelyReduced G S) (m : Move) (e : next G S ≡ Some m) where
   pub by_shortening : rule_of G S ≡ Shortening → shortening G S ≡ Some m
   by_shortening r = elim (next_from G S m e) [
@@ -100,11 +101,10 @@ module _ {A : Type 0} (G : Alphabet A) (L : AlphabetLaws G) (S : List (List A)) 
     | inr h ↦ h
   ]
 
-  pub rule_shortens : (rule_of G S ≡ Shortening) ↔ (length (moved_word G S m) < length (word G S m.changed))
-  rule_shortens = (
-    λ r. shortening_shorter G L S freely m (by_shortening r),
-    λ shorter. elim (next_from G S m e) [
-      | inl s ↦ rule_shortening G S m s
-      | inr h ↦ absurd (omega (arith, shorter, half_end-same-length G L S freely ((shortening-none G L S freely).0 h.0) m h.1))
-    ],
-  )
+  pub shortening-shorter : rule_of G S ≡ Shortening → length (moved_word G S m) < length (word G S m.changed)
+  shortening-shorter r = shortening_shorter G L S freely m (by_shortening r)
+
+  pub half_end-keeps : rule_of G S ≡ HalfEnd → length (moved_word G S m) ≡ length (word G S m.changed)
+  half_end-keeps r =
+      let h = by_half_end r in
+      half_end-same-length G L S freely ((shortening-none G L S freely).0 h.0) m h.1
