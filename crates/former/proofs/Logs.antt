@@ -1,13 +1,16 @@
 -- The former log records, which had 4 bytes and no explanation, and the former refusals of replay on a run. They stand here for the laws of
 -- this crate alone: a log without its explanations is the former one, reduce and member are otherwise as they were where neither is refused,
 -- and replay's run where no length differs.
-use Prim.Native.Nat.{◌+◌, ◌/◌, suc, zero, ℕ}
+use Prim.Native.Nat.{◌+◌, ◌/◌, ◌<◌, suc, zero, ℕ}
 use mathlib.Core.Bool.{Bool, false, true}
 use mathlib.Core.List.{List, [], ◌++◌, ◌∷◌}
 use mathlib.Core.Logic.{inl, inr, ◌⊎◌}
 use mathlib.Core.Path.{◌∙◌, ◌≡◌, ap, refl}
 use native.Mathlib.Omega.{arith}
+use native.Mathlib.Decide.{ℕ_discrete}
+use lib.Dec.{eqb}
 use lib.ListN.{drop, length, take}
+use borrow.Author.Tests.{eq-eqb, ne_eqb}
 use Rattle.std.specs.Prelude.{Err, Ok}
 use Rattle.words.specs.Alphabet.{bytes}
 use Rattle.systems.specs.Moves.{form_digit, made}
@@ -18,11 +21,12 @@ use Rattle.records.specs.Refusals.{Checked, ◌and_then◌, each_below, must, re
 use Rattle.records.specs.declared.refusals.Reason.TheVariants.{LengthDiffers, LogBufferShort, WordTooLong}
 use Rattle.records.specs.declared.answers.Verdict.{Verdict}
 use Rattle.records.proofs.Chains.{fine_first, fine_next, must_fine}
-use Rattle.moves.specs.Logs.{explained, log_of, move_at, move_size, moves_in}
+use Rattle.moves.specs.Logs.{logged_all, log_of, move_at, move_size, moves_in}
 use Rattle.runs.specs.Runs.{room_for}
 use Rattle.reduction.specs.Reduction.{log_after, reduction_of, run_tests, words_after}
 use Rattle.reduction.proofs.Meaning.{stopped_none}
-use Rattle.replay.specs.Replay.{directed, fits, place_at, ran_before, replayed, run_rules, turn_rule}
+use Rattle.replay.specs.Replay.{directed, fits, place_at, ran_before, replayed, turn_rule}
+use Rattle.replay.proofs.Accepting.{TellsLength}
 
 -- "One move in a log is 4 bytes: slot changed, form digit, other slot, line feed."
 abbrev pub former_log_of : List Move → List ℕ
@@ -40,7 +44,7 @@ without_explanations (suc n) log = take 3 log ++ (take 1 (drop 7 log) ++ without
 
 -- in the log of a list of moves they are the former records of these moves
 pub log_as_it_was : (S : List (List ℕ)) (ms : List Move) (rest : List ℕ)
-    → without_explanations (length ms) (log_of (explained S ms) ++ rest) ≡ former_log_of ms
+    → without_explanations (length ms) (log_of (logged_all S ms) ++ rest) ≡ former_log_of ms
 log_as_it_was S [] rest = refl
 log_as_it_was S (m ∷ ms) rest =
     ap (λ (later : List ℕ). (97 + m.changed) ∷ form_digit m.form ∷ (97 + m.other) ∷ 10 ∷ later) (log_as_it_was (made bytes S m) ms rest)
@@ -72,36 +76,40 @@ former_turn_rule backward S log d =
     let place : ℕ = place_at backward (length log / move_size) d in
     must (fits (replayed backward S (ran_before backward (moves_in log) d)) (directed backward (move_at log place))) WordTooLong (place + 1)
 
--- what is found is what was found, or a length that differs
-abbrev pub SameUnless22 : Checked → Checked → Type 0
-SameUnless22 found former = (found ≡ former) ⊎ ((number : ℕ) × (found ≡ refusal LengthDiffers number))
+-- 22 at turn d, where the length in the log record is not that of the word
+abbrev pub DiffersAt : Bool → List (List ℕ) → List ℕ → Checked → ℕ → Type 0
+DiffersAt backward S log found d =
+    (TellsLength backward S log d → ⊥) × (found ≡ refusal LengthDiffers (place_at backward (length log / move_size) d + 1))
 
-turn_unless : (backward : Bool) (S : List (List ℕ)) (log : List ℕ) (d : ℕ) → SameUnless22 (turn_rule backward S log d) (former_turn_rule backward S log d)
+turn_as_it_was : (backward : Bool) (S : List (List ℕ)) (log : List ℕ) (d : ℕ)
+    → (turn_rule backward S log d ≡ former_turn_rule backward S log d) ⊎ DiffersAt backward S log (turn_rule backward S log d) d
 unfolding turn_rule
-turn_unless backward S log d = by_tests _ _ _
+turn_as_it_was backward S log d = by_tests _ _ _ _
   where
-    by_tests : (fit same : Bool) (number : ℕ)
-        → SameUnless22 (must fit WordTooLong number and_then must same LengthDiffers number) (must fit WordTooLong number)
-    by_tests true true number = inl refl
-    by_tests true false number = inr (number, refl)
-    by_tests false same number = inl refl
+    by_tests : (fit : Bool) (k n number : ℕ)
+        → (must fit WordTooLong number and_then must (eqb k n) LengthDiffers number ≡ must fit WordTooLong number)
+        ⊎ ((k ≡ n → ⊥) × (must fit WordTooLong number and_then must (eqb k n) LengthDiffers number ≡ refusal LengthDiffers number))
+    by_tests true k n number = elim (ℕ_discrete k n) [
+      | yes e ↦ inl (ap (λ (b : Bool). must b LengthDiffers number) (eq-eqb k n e))
+      | no e ↦ inr (e, ap (λ (b : Bool). must b LengthDiffers number) (ne_eqb k n e))
+    ]
+    by_tests false k n number = inl refl
 
--- so a run over a log finds what it found, unless it finds a length that differs
-each_unless : (f g : ℕ → Checked) → ((d : ℕ) → SameUnless22 (f d) (g d)) → (n : ℕ) → SameUnless22 (each_below f n) (each_below g n)
-each_unless f g each zero = inl refl
-each_unless f g each (suc n) = elim (each_unless f g each n) [
-  | inr e ↦ inr (e.0, ap (λ (c : Checked). c and_then f n) e.1)
-  | inl e ↦ after (each_below g n) (ap (λ (c : Checked). c and_then f n) e)
+-- so on the first n turns of a run, and with n the number of records on all of it: it finds what it found, unless a length differs at some
+-- turn, and then it finds 22 there
+pub replay_as_it_was : (backward : Bool) (S : List (List ℕ)) (log : List ℕ) (n : ℕ)
+    → (each_below (turn_rule backward S log) n ≡ each_below (former_turn_rule backward S log) n)
+    ⊎ ((d : ℕ) × (d < n) × DiffersAt backward S log (each_below (turn_rule backward S log) n) d)
+replay_as_it_was backward S log zero = inl refl
+replay_as_it_was backward S log (suc n) = elim (replay_as_it_was backward S log n) [
+  | inr r ↦ inr (r.0, omega (arith, r.1), (r.2.0, ap (λ (c : Checked). c and_then turn_rule backward S log n) r.2.1))
+  | inl e ↦ after (each_below (former_turn_rule backward S log) n) (ap (λ (c : Checked). c and_then turn_rule backward S log n) e)
 ]
   where
-    after : (c : Checked) {x : Checked} → x ≡ c and_then f n → SameUnless22 x (c and_then g n)
-    after (Err r) e = inl e
-    after (Ok u) e = elim (each n) [
+    after : (c : Checked) {x : Checked} → x ≡ c and_then turn_rule backward S log n
+        → (x ≡ c and_then former_turn_rule backward S log n) ⊎ ((d : ℕ) × (d < suc n) × DiffersAt backward S log x d)
+    after (Err f) e = inl e
+    after (Ok u) e = elim (turn_as_it_was backward S log n) [
       | inl same ↦ inl (e ∙ same)
-      | inr differs ↦ inr (differs.0, e ∙ differs.1)
+      | inr differs ↦ inr (n, omega arith, (differs.0, e ∙ differs.1))
     ]
-
-pub replay_as_it_was : (backward : Bool) (S : List (List ℕ)) (log : List ℕ)
-    → SameUnless22 (run_rules backward S log) (each_below (former_turn_rule backward S log) (length log / move_size))
-replay_as_it_was backward S log =
-    each_unless (turn_rule backward S log) (former_turn_rule backward S log) (turn_unless backward S log) (length log / move_size)

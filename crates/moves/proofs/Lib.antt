@@ -1,4 +1,4 @@
 -- Laws that the proofs of several functions cite.
 pub mod Logging
 pub mod LogBack
-pub mod Explained
+pub mod LogOfMoves

@@ -7,10 +7,8 @@ use native.Mathlib.Nat.{add-sub_cancel_left, add-zero}
 use native.Mathlib.Omega.{arith}
 use lib.Dec.{leb}
 use lib.ListN.{drop, get_or, length, length-append}
-use lib.Seq.{drop_at, drop-cons, drop-drop, drop-nil, ext_get_or, get_or-drop}
+use lib.Seq.{drop_at, drop-cons, drop-drop, drop-nil, get_or-drop}
 use borrow.Author.Tests.{le-leb, lt-ltb, ne_eqb}
-use Rattle.words.specs.Below.{below}
-use Rattle.words.proofs.Below.{below_at, below_length}
 use Rattle.systems.specs.declared.Form.{Form}
 use Rattle.systems.specs.declared.Rule.{Rule}
 use Rattle.systems.specs.declared.Rule.TheVariants.{HalfEnd, Shortening}
@@ -42,7 +40,7 @@ pub log_of-length : (ls : List Logged) → length (log_of ls) ≡ length ls * mo
 log_of-length [] = refl
 log_of-length (l ∷ ls) = omega (arith, length-append (log_record l) (log_of ls), record-size l, log_of-length ls)
 
-log_of-count : (ls : List Logged) → length (log_of ls) / move_size ≡ length ls
+pub log_of-count : (ls : List Logged) → length (log_of ls) / move_size ≡ length ls
 log_of-count ls = omega (arith, log_of-length ls)
 
 log_of-drop : (j : ℕ) (ls : List Logged) → drop (j * move_size) (log_of ls) ≡ log_of (drop j ls)
@@ -127,24 +125,12 @@ module _ (ls : List Logged) (j : ℕ) (inside : j < length ls) (d : Logged) wher
   log_of_valid : (n : ℕ) → Loggable n (get_or ls j d) → is_move n (log_of ls) j ≡ true
   log_of_valid n h = is_move_here n (log_of ls) j ∙ ap (λ (l : List ℕ). is_move n l 0) rest_of_log ∙ record_valid n (get_or ls j d) (log_of (drop (suc j) ls)) h
 
--- reading back what was written: the log of a list of moves holds that list, with all that it says of them
-abbrev pub logged_in : List ℕ → List Logged
-logged_in log = below (logged_at log) (length log / move_size)
-
-pub log_of-logged : (ls : List Logged) → logged_in (log_of ls) ≡ ls
-log_of-logged ls =
-    let d : Logged = logged_at [] 0 in
-    ext_get_or d (logged_in (log_of ls)) ls (below_length (logged_at (log_of ls)) (length (log_of ls) / move_size) ∙ log_of-count ls)
-    (λ j h.
-    let room : j < length (log_of ls) / move_size = omega (arith, below_length (logged_at (log_of ls)) (length (log_of ls) / move_size)) in
-    below_at (logged_at (log_of ls)) (length (log_of ls) / move_size) j d room ∙ log_of_at ls j (omega (arith, log_of-count ls)) d)
-
 all_at : (n : ℕ) (ls : List Logged) (j : ℕ) (d : Logged) → AllLoggable n ls → j < length ls → Loggable n (get_or ls j d)
 all_at n [] j d all h = absurd (omega arith)
 all_at n (l ∷ ls) zero d all h = all.0
 all_at n (l ∷ ls) (suc j) d all h = all_at n ls j d all.1 (omega arith)
 
--- the log of moves between the first n slots passes the tests over n slots
+-- the log of moves between the first n slots, with lengths of two digits, passes the tests over n slots
 pub log_of_passes : (n : ℕ) (ls : List Logged) → AllLoggable n ls → log_rules n (log_of ls) ≡ Ok tt
 unfolding move_rule
 log_of_passes n ls all =

@@ -1,4 +1,5 @@
--- Log records: "8 bytes: slot, digit, slot, space, s for shortening or h for half-end, the changed word's new length as two digits, line feed."
+-- Log records: "One move in a log is 8 bytes: slot changed, form digit, other slot, space, s for a shortening or h for a half-end move, the
+-- changed word's new length as two digits, line feed."
 use Rattle.std.specs.Prelude.{◌%◌, ◌*◌, ◌+◌, ◌-◌, ◌/◌, ℕ, Bool, ◌&&◌, ◌||◌, cond, not, List, [], ◌++◌, ◌∷◌, eqb, leb, ltb, get_or, length, None, Option, Some}
 use Rattle.std.specs.Char.{is_ascii_digit}
 use Rattle.words.specs.Alphabet.{bytes}
@@ -21,9 +22,9 @@ abbrev pub logged : List (List ℕ) → Move → Logged
 logged S m = record { made = m; rule = rule_of bytes S; new_length = length (moved_word bytes S m) }
 
 -- so the moves of a run over S, one after the other
-abbrev pub explained : List (List ℕ) → List Move → List Logged
-explained S [] = []
-explained S (m ∷ ms) = logged S m ∷ explained (made bytes S m) ms
+abbrev pub logged_all : List (List ℕ) → List Move → List Logged
+logged_all S [] = []
+logged_all S (m ∷ ms) = logged S m ∷ logged_all (made bytes S m) ms
 
 -- the log record of a move; slots are named a to p
 abbrev pub log_record : Logged → List ℕ
@@ -47,7 +48,7 @@ move_at log j =
 
 -- the rule that a letter names
 abbrev pub named_rule : ℕ → Rule
-named_rule letter = cond (eqb letter 115) Shortening HalfEnd
+named_rule letter = cond (eqb letter (rule_letter Shortening)) Shortening HalfEnd
 
 -- the number that two digits stand for
 abbrev pub number_in : ℕ → ℕ → ℕ
@@ -69,9 +70,9 @@ moves_in log = below (move_at log) (length log / move_size)
 abbrev pub names_slot : ℕ → ℕ → Bool
 names_slot n b = leb 97 b && ltb (b - 97) n
 
--- "s for shortening or h for half-end"
+-- a byte is the letter of a rule
 abbrev pub is_rule : ℕ → Bool
-is_rule b = eqb b 115 || eqb b 104
+is_rule b = eqb b (rule_letter Shortening) || eqb b (rule_letter HalfEnd)
 
 -- "slot letter, digit 1 to 4, slot letter, space, s or h, two digits, line feed, with two different slots that the system has"
 abbrev pub is_move : ℕ → List ℕ → ℕ → Bool

@@ -62,7 +62,7 @@ fn two_digits(tens: u8, ones: u8) -> Option<usize>
     }
 }
 
-// Reads the move in a log record, if it is one over n slots.
+// Reads a log record, if it is that of a move over n slots.
 pub fn read_move(n: usize, bytes: &[u8; MOVE]) -> Option<Logged>
     ensures read { result ≡ read_move n bytes.now }
     ensures between { IfSome result (λ logged. Between n logged.made) }

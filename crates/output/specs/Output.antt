@@ -18,7 +18,7 @@ given_target input = drop (length input - 64) input
 unfoldable pub input_rules : ℕ → Checked
 input_rules n = must (not (eqb n 0)) TargetOrProductMalformed 0 and_then must (leb n 1088) SystemTooLong 0 and_then must (eqb (n % 64) 0) SystemUneven 0
 
--- the buffers that the program lends to member, with room for 16 records, for the moves and for a product: "The program's log now holds 8,192 moves."
+-- the buffers that the program lends to member, with room for 16 records, for the moves and for a product: "Its log buffer holds 8,192 moves."
 -- None of these zeros is printed.
 unfoldable pub program_words : List ℕ
 program_words = replicate 1024 0

@@ -20,7 +20,7 @@ use Rattle.slots.proofs.Systems.{system-size}
 use Rattle.slots.specs.Systems.{slots}
 use Rattle.slots.proofs.RoundTrip.{words-length}
 use Rattle.systems.proofs.Neither.{run_length}
-use Rattle.moves.specs.Logs.{explained, log_of}
+use Rattle.moves.specs.Logs.{logged_all, log_of}
 use Rattle.runs.specs.Runs.{ran, stopped}
 use Rattle.reduction.specs.Reduction.{reduction_of, refused_reduction, refused_test, run_tests, summed, test_answer, tested_of}
 use Rattle.reduction.specs.declared.answers.Reduction.{Reduction}
@@ -77,9 +77,9 @@ module _ (s : List ℕ) (S : List (List ℕ)) (most : ℕ) (given : S ≡ freely
   pub run_left : {T : List (List ℕ)} → T ≡ run_within bytes most S → T ≡ run_within bytes most (freely_reduced_words s)
   run_left e = e ∙ ap (run_within bytes most) given
 
-  pub run_logged : (log₀ : List ℕ) {log : List ℕ} → log ≡ written (log_of (explained S (moves_within bytes most S))) log₀
-      → log ≡ written (log_of (explained (freely_reduced_words s) (moves_within bytes most (freely_reduced_words s)))) log₀
-  run_logged log₀ e = e ∙ ap (λ (U : List (List ℕ)). written (log_of (explained U (moves_within bytes most U))) log₀) given
+  pub run_logged : (log₀ : List ℕ) {log : List ℕ} → log ≡ written (log_of (logged_all S (moves_within bytes most S))) log₀
+      → log ≡ written (log_of (logged_all (freely_reduced_words s) (moves_within bytes most (freely_reduced_words s)))) log₀
+  run_logged log₀ e = e ∙ ap (λ (U : List (List ℕ)). written (log_of (logged_all U (moves_within bytes most U))) log₀) given
 
   -- they need the room that the tests asked for
   pub run_fits : {T : List (List ℕ)} (room : ℕ) → T ≡ run_within bytes most S → slots s * 64 ≤ room → length T * 64 ≤ room

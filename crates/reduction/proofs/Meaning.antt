@@ -23,7 +23,7 @@ use Rattle.systems.specs.Rank.{none_blank, rank}
 use Rattle.systems.specs.Reduced.{Reduced}
 use Rattle.systems.specs.Rules.{moves_within, next, run_within}
 use Rattle.systems.proofs.Ending.{every_run-ends}
-use Rattle.systems.proofs.Explaining.{by_half_end, by_shortening, half_end-keeps, moves_next, shortening-shorter}
+use Rattle.systems.proofs.Finding.{by_half_end, by_shortening, half_end-keeps, moves_next, shortening-shorter}
 use Rattle.systems.proofs.Undoing.{made_all-freely_reduced}
 use Rattle.systems.proofs.Equivalence.{freely_reduced-same}
 use Rattle.systems.proofs.Neither.{moves_again, moves-first, moves_fit, moves-over, next-none, run_ended, run-freely_reduced, run_length, run_valid}
@@ -37,8 +37,8 @@ use Rattle.slots.specs.Refusals.{system_room, system_rules}
 use Rattle.slots.specs.Systems.{AllShort, LetterWords, bytes_of, freely_reduced_words, slots, system_of}
 use Rattle.slots.proofs.RoundTrip.{bytes_of-length, bytes_of-slots, reduced_letters, reduced-short, system_back, system_passes, words-length}
 use Rattle.slots.proofs.Systems.{loaded_freely_reduced, room_fits, system-few}
-use Rattle.moves.specs.Logs.{explained, log_of, log_rules, logged, logged_at, move_at, move_size}
-use Rattle.moves.proofs.Explained.{explained_first, explained_loggable, explained_record, explained-length, log_of-moves, record_move}
+use Rattle.moves.specs.Logs.{logged_all, log_of, log_rules, logged, logged_at, move_at, move_size}
+use Rattle.moves.proofs.LogOfMoves.{logged_all_first, all_loggable, record_logged, logged_all-length, log_of-moves, record_move}
 use Rattle.moves.proofs.LogBack.{log_of-length, log_of_passes}
 use Rattle.replay.specs.Replay.{replay_rules, run_rules}
 use Rattle.replay.proofs.Accepting.{replay_accepts, run_accepts, tells_backward, tells_forward}
@@ -114,7 +114,7 @@ module _ (s : List ℕ) (n : ℕ) where
   log_passes : log_rules (slots s) (run_log s n) ≡ Ok tt
   log_passes =
       let valid = run_valid bytes byte_laws n (freely_reduced_words s) (loaded_freely_reduced s) in
-      log_of_passes (slots s) (logged_moves s n) (rw (words-length s) at (explained_loggable (freely_reduced_words s) (run_moves s n) valid (reduced-short s)))
+      log_of_passes (slots s) (logged_moves s n) (rw (words-length s) at (all_loggable (freely_reduced_words s) (run_moves s n) valid (reduced-short s)))
 
   -- undone, they lead back through the words of the way there
   back_way : (i : ℕ) → undone_all bytes (run_words s n) (drop i (run_moves s n)) ≡ made_all bytes (freely_reduced_words s) (take i (run_moves s n))
@@ -141,7 +141,7 @@ module _ (s : List ℕ) (n : ℕ) where
       let m : Move = move_at (run_log s n) j in
       let before : List (List ℕ) = made_all bytes (freely_reduced_words s) (take j (run_moves s n)) in
       let freely = made_all-freely_reduced bytes byte_laws (freely_reduced_words s) (take j (run_moves s n)) (loaded_freely_reduced s) in
-      let told : logged_at (run_log s n) j ≡ logged before m = explained_record (freely_reduced_words s) (run_moves s n) j h (move_at [] 0) in
+      let told : logged_at (run_log s n) j ≡ logged before m = record_logged (freely_reduced_words s) (run_moves s n) j h (move_at [] 0) in
       let more : next bytes before ≡ Some m =
       moves_next bytes n (freely_reduced_words s) j (move_at [] 0) h
       ∙ ap Some (sym (record_move (freely_reduced_words s) (run_moves s n) j h (move_at [] 0))) in
@@ -229,7 +229,7 @@ log_holds s log log' tests passed logged =
     let new : log' ≡ written (run_log s (room_for log)) log = logged ∙ ap (λ (c : Checked). on_fine c (written (run_log s (room_for log)) log) log) passed in
     let size : length (run_log s (room_for log)) ≡ length (run_moves s (room_for log)) * move_size =
     log_of-length (logged_moves s (room_for log))
-    ∙ ap (λ (k : ℕ). k * move_size) (explained-length (freely_reduced_words s) (run_moves s (room_for log))) in
+    ∙ ap (λ (k : ℕ). k * move_size) (logged_all-length (freely_reduced_words s) (run_moves s (room_for log))) in
     ap (take (length (run_moves s (room_for log)) * move_size)) new ∙ written-take (run_log s (room_for log)) log _ size
 
 -- and where it passed its tests and 13
@@ -303,14 +303,14 @@ module _ (s log : List ℕ) (tests : Checked) (passed : tests ≡ Ok tt) (enough
       λ e. stopped_fit.0 (stops.0 (rw told at e)) in
       let first : run_moves s (room_for log) ≡ take (room_for log) (run_moves s enough) =
       moves-first bytes enough (room_for log) (freely_reduced_words s) ended in
-      let same : length (logged_moves s enough) ≡ length (run_moves s enough) = explained-length (freely_reduced_words s) (run_moves s enough) in
+      let same : length (logged_moves s enough) ≡ length (run_moves s enough) = logged_all-length (freely_reduced_words s) (run_moves s enough) in
       record {
         refused = (λ e. rw same (over e), λ h. rw told (stops.1 (stopped_fit.1 (rw same at h))));
         first_that_fit =
             λ e.
             let count : length (run_moves s (room_for log)) ≡ room_for log = ap length first ∙ length-take-le (room_for log) (run_moves s enough) (omega (arith, over e)) in
             ap (λ (k : ℕ). take (k * move_size) log') (sym count) ∙ log_holds s log log' tests passed logged
-            ∙ ap log_of (ap (explained (freely_reduced_words s)) first ∙ explained_first (room_for log) (freely_reduced_words s) (run_moves s enough));
+            ∙ ap log_of (ap (logged_all (freely_reduced_words s)) first ∙ logged_all_first (room_for log) (freely_reduced_words s) (run_moves s enough));
       }
 
 -- reduce: a call that is done has passed its tests

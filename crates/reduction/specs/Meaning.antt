@@ -12,7 +12,7 @@ use Rattle.slots.specs.Systems.{slots, system_of, freely_reduced_words}
 use Rattle.slots.specs.Refusals.{system_rules}
 use Rattle.records.specs.Answers.{refusal_number}
 use Rattle.records.specs.declared.answers.Verdict.TheVariants.{Done}
-use Rattle.moves.specs.Logs.{explained, log_of, logged_at, move_size, moves_in}
+use Rattle.moves.specs.Logs.{logged_all, log_of, logged_at, move_size, moves_in}
 use Rattle.moves.specs.declared.log.Logged.{Logged}
 use Rattle.replay.specs.Replay.{replay_rules, replayed}
 use Rattle.runs.specs.Runs.{room_for}
@@ -26,13 +26,13 @@ EnoughMoves given n = next bytes (run_within bytes n (freely_reduced_words given
 
 -- the moves that the rules make on these words, at most n of them, as they are logged
 abbrev pub logged_moves : List ℕ → ℕ → List Logged
-logged_moves given n = explained (freely_reduced_words given) (moves_within bytes n (freely_reduced_words given))
+logged_moves given n = logged_all (freely_reduced_words given) (moves_within bytes n (freely_reduced_words given))
 
 -- what a log record tells of its move, made on the words S
 pub record Tells (S : List (List ℕ)) (told : Logged) : Type 0 where
-  -- "s for shortening": the first that there is
+  -- "s for a shortening": the first that there is
   pub by_shortening : told.rule ≡ Shortening → shortening bytes S ≡ Some told.made
-  -- "or h for half-end": the first of these, "only when nothing shortens"
+  -- "or h for a half-end move": the first of these, "only when nothing shortens"
   pub by_half_end : told.rule ≡ HalfEnd → (shortening bytes S ≡ None) × (half_end bytes S ≡ Some told.made)
   -- so with s the changed word gets shorter, and with h it keeps its length
   pub shorter : told.rule ≡ Shortening → length (moved_word bytes S told.made) < length (word bytes S told.made.changed)

@@ -10,7 +10,7 @@ use Rattle.records.specs.declared.answers.Verdict.TheVariants.{Done, Refused}
 use Rattle.records.specs.Refusals.{◌and_then◌, must}
 use Rattle.slots.specs.Refusals.{system_room, system_rules}
 use Rattle.slots.specs.Systems.{bytes_of, freely_reduced_words}
-use Rattle.moves.specs.Logs.{explained, log_of}
+use Rattle.moves.specs.Logs.{logged_all, log_of}
 use Rattle.runs.specs.Runs.{room_for, stopped}
 use Rattle.reduction.specs.declared.answers.Reduction.{Reduction}
 use Rattle.reduction.specs.declared.answers.Tested.{Tested}
@@ -47,7 +47,7 @@ module _ (tests : Checked) (S : List (List ℕ)) (most : ℕ) where
 
   -- "Under 13 the log holds, as whole records, the first moves that fit; its other bytes and the other buffers are untouched."
   abbrev pub log_after : List ℕ → List ℕ
-  log_after log = on_fine tests (written (log_of (explained S (moves_within bytes most S))) log) log
+  log_after log = on_fine tests (written (log_of (logged_all S (moves_within bytes most S))) log) log
 
 -- Reduce: "give the reduced system, the log, the number of moves, the rank and the verdict on independence"; refusals 1 to 5, 10, 13
 module _ (s words log : List ℕ) where

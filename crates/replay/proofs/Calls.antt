@@ -40,7 +40,7 @@ module _ (s log : List ℕ) (room : ℕ) {x : Checked} (e : x ≡ replay_tests s
       let count : length T ≡ slots s = ap length (left fine) ∙ turn_length log S way (moves_in log) ∙ ap length same ∙ words-length s in
       rw count (room_enough (slots s * 64) room (fine_next (log_rules (slots s) log) _ rest_passed))
 
--- refusals 1 to 10, and then 12
+-- refusals 1 to 10, and then 12 and 22
 module _ (s log : List ℕ) (way : Bool) (room : ℕ) where
   pub rules_tests : {x : Checked} {f : Refusal} → x ≡ replay_tests s log room → x ≡ Err f → x ≡ replay_rules s log way room
   unfolding replay_rules

@@ -36,12 +36,14 @@ directed backward m = cond backward (undo m) m
 abbrev pub fits : List (List ℕ) → Move → Bool
 fits S m = leb (length (moved_word bytes S m)) 63
 
--- the word after the move that a log record tells of: forward the one that is made, "backward the slot's word before the undoing"
+-- the word after the move that a log record tells of: "forward with the new word's, backward with that of the slot's word before the
+-- undoing"
 abbrev pub word_after : Bool → List (List ℕ) → Move → List ℕ
 word_after backward S m = cond backward (word bytes S m.changed) (moved_word bytes S m)
 
 -- 12. "A move in replay .. freely reduces to more than 63 letters", its place being "the move's number in the log, the log's first being 1
--- whichever way it is run". Then 22 with the same number, for a log record whose length differs.
+-- whichever way it is run". Then 22, with the same number. "In replay the length in a log record is not that of the changed word after its
+-- move".
 abbrev pub move_rules : Bool → List (List ℕ) → Logged → ℕ → Checked
 move_rules backward S l number =
     let m : Move = directed backward l.made in

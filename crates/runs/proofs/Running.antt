@@ -13,15 +13,15 @@ use Rattle.systems.specs.declared.Move.{Move}
 use Rattle.systems.specs.Rules.{found_next, half_end, moves_within, next, run_within, shortening, with_rule}
 use Rattle.systems.proofs.Runs.{ended_moves, turn_length, turn_moves, turn_run}
 use Rattle.moves.specs.Found.{Between, FoundBelow}
-use Rattle.moves.specs.Logs.{explained, log_of, log_record, logged, move_size}
+use Rattle.moves.specs.Logs.{logged_all, log_of, log_record, logged, move_size}
 use Rattle.moves.specs.declared.log.Logged.{Logged}
-use Rattle.moves.proofs.Explained.{explained_last, explained-length}
+use Rattle.moves.proofs.LogOfMoves.{logged_all_last, logged_all-length}
 use Rattle.moves.proofs.LogBack.{log_of_last, log_of-length}
 use Rattle.systems.specs.Products.{word}
 use Rattle.systems.specs.declared.Found.{Found}
 use Rattle.systems.specs.declared.Rule.{Rule}
 use Rattle.systems.specs.declared.Rule.TheVariants.{HalfEnd, Shortening}
-use Rattle.systems.proofs.Explaining.{found_first, found_move, found_none, found_rule, found_then}
+use Rattle.systems.proofs.Finding.{found_first, found_move, found_none, found_rule, found_then}
 use Rattle.systems.proofs.Undoing.{made-changed}
 use Rattle.std.specs.Prelude.{IfSome}
 use Rattle.runs.specs.Runs.{FoundNext, ran}
@@ -51,19 +51,19 @@ module _ (S : List (List ℕ)) (tried : Option Move) (told : tried ≡ shortenin
 pub record Standing (S₀ : List (List ℕ)) (log₀ : List ℕ) (S : List (List ℕ)) (log : List ℕ) (used : ℕ) : Type 0 where
   pub words : S ≡ run_within bytes used S₀
   pub count : length (moves_within bytes used S₀) ≡ used
-  pub logged : log ≡ log_of (explained S₀ (moves_within bytes used S₀)) ++ drop (used * move_size) log₀
+  pub logged : log ≡ log_of (logged_all S₀ (moves_within bytes used S₀)) ++ drop (used * move_size) log₀
 
 pub standing_begin : (S : List (List ℕ)) (log : List ℕ) → Standing S log S log 0
 standing_begin S log = record { words = refl; count = refl; logged = refl }
 
 module _ (S₀ : List (List ℕ)) (log₀ : List ℕ) (S : List (List ℕ)) (log : List ℕ) (used : ℕ) (standing : Standing S₀ log₀ S log used) where
   abbrev written_so_far : List ℕ
-  written_so_far = log_of (explained S₀ (moves_within bytes used S₀))
+  written_so_far = log_of (logged_all S₀ (moves_within bytes used S₀))
 
   log_long : length written_so_far ≡ used * move_size
   log_long =
-      log_of-length (explained S₀ (moves_within bytes used S₀))
-      ∙ ap (λ (k : ℕ). k * move_size) (explained-length S₀ (moves_within bytes used S₀) ∙ standing.count)
+      log_of-length (logged_all S₀ (moves_within bytes used S₀))
+      ∙ ap (λ (k : ℕ). k * move_size) (logged_all-length S₀ (moves_within bytes used S₀) ∙ standing.count)
 
   -- a move is made and logged
   module _ (f : Found) (more : found_next bytes S ≡ Some f) where
@@ -78,7 +78,7 @@ module _ (S₀ : List (List ℕ)) (log₀ : List ℕ) (S : List (List ℕ)) (log
         (counted ∙ ap (λ (U : List (List ℕ)). length (word bytes U f.next.changed)) turned ∙ ap length (made-changed bytes S f.next between.0))
 
     log-more : (log' : List ℕ) → log' ≡ take (used * move_size) log ++ (log_record (logged S f.next) ++ drop (used * move_size + move_size) log)
-        → log' ≡ log_of (explained S₀ (moves_within bytes (used + 1) S₀)) ++ drop ((used + 1) * move_size) log₀
+        → log' ≡ log_of (logged_all S₀ (moves_within bytes (used + 1) S₀)) ++ drop ((used + 1) * move_size) log₀
     log-more log' after =
         let last : List ℕ = log_record (logged S f.next) in
         let front : take (used * move_size) log ≡ written_so_far =
@@ -91,11 +91,11 @@ module _ (S₀ : List (List ℕ)) (log₀ : List ℕ) (S : List (List ℕ)) (log
         after ∙ ap₂ (λ (a b : List ℕ). a ++ (last ++ b)) front back
         ∙ sym (append_assoc written_so_far last (drop ((used + 1) * move_size) log₀))
         ∙ ap (λ (a : List ℕ). a ++ drop ((used + 1) * move_size) log₀)
-        (sym (log_of_last (explained S₀ (moves_within bytes used S₀)) (logged S f.next))
+        (sym (log_of_last (logged_all S₀ (moves_within bytes used S₀)) (logged S f.next))
         ∙ ap log_of
-        (ap (λ (T : List (List ℕ)). explained S₀ (moves_within bytes used S₀) ++ (logged T f.next ∷ [])) standing.words
-        ∙ sym (explained_last S₀ (moves_within bytes used S₀) f.next)
-        ∙ ap (explained S₀) (turn_moves bytes S₀ S used standing.words f.next next-is (moves_within bytes used S₀) refl)))
+        (ap (λ (T : List (List ℕ)). logged_all S₀ (moves_within bytes used S₀) ++ (logged T f.next ∷ [])) standing.words
+        ∙ sym (logged_all_last S₀ (moves_within bytes used S₀) f.next)
+        ∙ ap (logged_all S₀) (turn_moves bytes S₀ S used standing.words f.next next-is (moves_within bytes used S₀) refl)))
 
     pub standing_turn : (T : List (List ℕ)) (log' : List ℕ) (l : Logged) → T ≡ made bytes S f.next → l ≡ logged S f.next
         → log' ≡ take (used * move_size) log ++ (log_record l ++ drop (used * move_size + move_size) log) → Standing S₀ log₀ T log' (used + 1)
@@ -121,10 +121,10 @@ module _ (S₀ : List (List ℕ)) (log₀ : List ℕ) (S : List (List ℕ)) (log
     pub came_words : S ≡ run_within bytes room S₀
     came_words = standing.words ∙ ap (made_all bytes S₀) same
 
-    pub came_log : log ≡ written (log_of (explained S₀ (moves_within bytes room S₀))) log₀
+    pub came_log : log ≡ written (log_of (logged_all S₀ (moves_within bytes room S₀))) log₀
     came_log =
         standing.logged ∙ ap (λ (k : ℕ). written_so_far ++ drop k log₀) (sym log_long)
-        ∙ ap (λ (ms : List Move). written (log_of (explained S₀ ms)) log₀) same
+        ∙ ap (λ (ms : List Move). written (log_of (logged_all S₀ ms)) log₀) same
 
     pub came_ended : found_next bytes S ≡ None → Ok used ≡ ran room S₀
     came_ended nothing = rw (← came_words, found_none bytes S nothing, ← came_moves) refl

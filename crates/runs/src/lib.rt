@@ -5,7 +5,7 @@ ghost use Rattle.std.specs.Prelude.{◌≡◌, ◌≤◌, length};
 ghost use Rattle.words.specs.Alphabet.{bytes};
 ghost use Rattle.words.specs.Buffers.{written};
 ghost use Rattle.systems.specs.Rules.{moves_within, run_within};
-ghost use Rattle.moves.specs.Logs.{explained, log_of};
+ghost use Rattle.moves.specs.Logs.{logged_all, log_of};
 ghost use Rattle.runs.specs.Runs.{FoundNext, ran, room_for};
 
 use half_ends::find_half_end;
@@ -32,7 +32,7 @@ pub fn find_move(search: &mut Search) -> Option<Found>
 pub fn run(search: &mut Search, log: &mut [u8]) -> Result<usize, usize>
     ensures moves { result ≡ ran (room_for log.old) search.old }
     ensures words { search.new ≡ run_within bytes (room_for log.old) search.old }
-    ensures log { log.new ≡ written (log_of (explained search.old (moves_within bytes (room_for log.old) search.old))) log.old }
+    ensures log { log.new ≡ written (log_of (logged_all search.old (moves_within bytes (room_for log.old) search.old))) log.old }
 {
     let room = log.len() / MOVE;
     for used in 0..room {

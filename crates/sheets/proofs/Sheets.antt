@@ -64,6 +64,7 @@ sheets_hold =
     and (refl, refl)
     and (refl, refl)
     and (refl, refl)
+    and (refl, refl)
     and (λ s buffer e. rw e (refl, refl))
     and (λ s buffer e. rw e (refl, refl))
     and (λ s buffer e. rw e (refl, refl))

@@ -187,7 +187,7 @@ no_words = outcome [] [] [] 0 true
 abbrev pub sixteen_blank : List String
 sixteen_blank = replicate 16 ""
 
--- the words of R6
+-- the words of R7
 abbrev pub thirty_two : String
 thirty_two = "aaaaaaaaaaaaaaaaaaaaaaaaaaaaaaaa"
 
@@ -213,9 +213,10 @@ sheets =
     ∷ replays "R3" ("ab" ∷ "b" ∷ []) ("a4b h01" ∷ []) false Done (system_in ("a" ∷ "b" ∷ []))
     ∷ replays "R4" ("ab" ∷ "b" ∷ []) ("a4b s02" ∷ []) false (refused_with LengthDiffers 1) (lent 128)
     ∷ replays "R5" ("a" ∷ "b" ∷ []) ("a4b s02" ∷ []) true (refused_with LengthDiffers 1) (lent 128)
-    ∷ replays "R6" (thirty_two ∷ thirty_two ∷ []) ("a3b s64" ∷ []) false (refused_with WordTooLong 1) (lent 128)
-    ∷ replays "R7" ("ab" ∷ "b" ∷ []) ("a4b s01" ∷ "a4b s 2" ∷ []) false (refused_with LogRecordMalformed 8) (lent 128)
-    ∷ replays "R8" ("ab" ∷ "b" ∷ []) ("a4b" ∷ []) false (refused LogUneven) (lent 128)
+    ∷ replays "R6" ("ccca" ∷ "c" ∷ []) ("a1b h02" ∷ "a1b h02" ∷ "a1b h04" ∷ []) true (refused_with LengthDiffers 2) (lent 128)
+    ∷ replays "R7" (thirty_two ∷ thirty_two ∷ []) ("a3b s63" ∷ []) false (refused_with WordTooLong 1) (lent 128)
+    ∷ replays "R8" ("ab" ∷ "b" ∷ []) ("a4b s01" ∷ "a4b s 2" ∷ []) false (refused_with LogRecordMalformed 8) (lent 128)
+    ∷ replays "R9" ("ab" ∷ "b" ∷ []) ("a4b" ∷ []) false (refused LogUneven) (lent 128)
     ∷ asks "A1" ("ab" ∷ "ac" ∷ "ad" ∷ []) "Cd" 64 Member (record_in "Bc")
     ∷ asks "A2" ("ab" ∷ "ac" ∷ "ad" ∷ []) "d" 64 NotMember (lent 64)
     ∷ asks "A3" ("cC" ∷ "aAb" ∷ []) "bcCb" 64 Member (record_in "bb")

@@ -20,4 +20,4 @@ pub mod Leading
 pub mod Membership
 pub mod Runs
 pub mod Cosets
-pub mod Explaining
+pub mod Finding

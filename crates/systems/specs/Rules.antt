@@ -31,7 +31,7 @@ form_at (suc zero) = InverseBefore
 form_at (suc (suc zero)) = After
 form_at (suc (suc (suc n))) = InverseAfter
 
--- "s for shortening or h for half-end"
+-- "s for a shortening or h for a half-end move"
 abbrev pub rule_letter : Rule → ℕ
 rule_letter Shortening = 115
 rule_letter HalfEnd = 104
@@ -112,7 +112,7 @@ module _ {A : Type 0} (G : Alphabet A) where
   unfoldable pub next : List (List A) → Option Move
   next S = elim (shortening S) [ None ↦ half_end S | Some m ↦ Some m ]
 
-  -- the rule that makes it: half-end, "only when nothing shortens"
+  -- the rule that makes it, where there is one: half-end, "only when nothing shortens"
   unfoldable pub rule_of : List (List A) → Rule
   rule_of S = elim (shortening S) [ None ↦ HalfEnd | Some m ↦ Shortening ]
 

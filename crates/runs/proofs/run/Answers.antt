@@ -5,7 +5,7 @@ use Rattle.words.specs.Alphabet.{bytes}
 use Rattle.systems.specs.Moves.{made}
 use Rattle.systems.specs.Products.{word}
 use Rattle.systems.specs.Rules.{next}
-use Rattle.systems.proofs.Explaining.{found_move}
+use Rattle.systems.proofs.Finding.{found_move}
 use Rattle.runs.specs.Runs.{room_for}
 use Rattle.runs.proofs.Running.{full_cut, full_ended, came_ended, came_log, came_words, same_ended, standing_begin, standing_turn, turn_logged}
 use Rattle.runs.proofs.run.Goals as goal

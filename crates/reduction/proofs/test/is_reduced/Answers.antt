@@ -3,7 +3,7 @@ use borrow.Author.Rules.{rules}
 use Rattle.std.proofs.Common.{ap, ◌∙◌}
 use Rattle.std.specs.Prelude.{is_none}
 use Rattle.words.specs.Alphabet.{bytes}
-use Rattle.systems.proofs.Explaining.{found_next-none}
+use Rattle.systems.proofs.Finding.{found_next-none}
 use Rattle.reduction.proofs.test.is_reduced.Goals as goal
 
 pub returns-clause-reduced : goal.returns-clause-reduced
