@@ -180,8 +180,9 @@ enum subgroups_refusal {
                                                   number's first byte */
     SUBGROUPS_EDGE_TABLE_SHORT = 21,           /* the table has fewer than 1,008 edges */
     SUBGROUPS_LENGTH_DIFFERS = 22              /* replay: a log record's two digits are not the length of the changed word
-                                                  after its move; tested at each move after 12; place: the move's number
-                                                  in the log, counted from 1 */
+                                                  after its move, which backward is the slot's word before the undoing;
+                                                  tested at each move after 12; place: the move's number in the log,
+                                                  counted from 1 */
 };
 
 /* The answer of a call. number and place are those of a refusal; what a call does not give is 0, and under a refusal all that
@@ -212,8 +213,8 @@ void subgroups_reduce(const uint8_t *system, size_t system_len, uint8_t *words, 
 
 /* Writes the words of a system after the moves of a log, forward where backward is 0, and otherwise undone, the last first. The
  * words are freely reduced first; moves may name blank slots. The length in each log record must be that of the changed word
- * after the move: forward the word that the move makes, backward the one that is there before the undoing. The letter may be
- * either at every move. Refusals 2, 1, 3 to 5, 7, 8 and 10, and then at each move 12 and 22. */
+ * after the move: forward the word that the move makes, backward the one that is there before the undoing. The letter s or h may
+ * be either at every move. Refusals 2, 1, 3 to 5, 7, 8 and 10, and then at each move 12 and 22. */
 void subgroups_replay(const uint8_t *system, size_t system_len, const uint8_t *log, size_t log_len,
                       uint8_t backward, uint8_t *words, size_t words_len, subgroups_answer *answer);
 

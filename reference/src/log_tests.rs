@@ -152,7 +152,7 @@ fn uneven_logs() {
 }
 
 /// The bytes that may stand at each place of a log record over a system of three slots that changes
-/// slot b by slot a, with any other byte of the log record left as it is.
+/// slot b by slot a, while its other bytes stay.
 const ALLOWED: [&[u8]; LOG_RECORD] = [
     b"bc",
     b"1234",
@@ -385,6 +385,38 @@ fn exchanged_letters() {
             &format!("a1b {letter}02\n"),
             Direction::Forward,
             &["ba", "b"],
+        );
+    }
+}
+
+/// The worked sheets R1 to R9.
+#[test]
+fn worked_sheets_of_replay() {
+    use Direction::{Backward, Forward};
+    leads_to(&["ab", "b"], "a4b s01\n", Forward, &["a", "b"]);
+    leads_to(&["a", "b"], "a4b s01\n", Backward, &["ab", "b"]);
+    leads_to(&["ab", "b"], "a4b h01\n", Forward, &["a", "b"]);
+    let thirty_two = "a".repeat(32);
+    let thirty_two = [&thirty_two[..], &thirty_two[..]];
+    let three_moves = "a1b h02\na1b h02\na1b h04\n";
+    for (given, log, direction, number, place) in [
+        (["ab", "b"], "a4b s02\n", Forward, LENGTH_DIFFERS, 1),
+        (["a", "b"], "a4b s02\n", Backward, LENGTH_DIFFERS, 1),
+        (["ccca", "c"], three_moves, Backward, LENGTH_DIFFERS, 2),
+        (thirty_two, "a3b s63\n", Forward, WORD_TOO_LONG, 1),
+        (
+            ["ab", "b"],
+            "a4b s01\na4b s 2\n",
+            Forward,
+            LOG_RECORD_MALFORMED,
+            8,
+        ),
+        (["ab", "b"], "a4b\n", Forward, LOG_UNEVEN, 0),
+    ] {
+        assert_eq!(
+            answered(&given, log, direction),
+            refused(number, place),
+            "{log:?}"
         );
     }
 }

@@ -64,8 +64,9 @@ fn digit_of_number(number: usize) -> u8 {
 }
 
 impl LogRecord {
-    /// The bytes of the log record, of which the length is below 100.
+    /// The bytes of the log record; the length that it tells is below 100.
     pub fn bytes(self) -> [u8; LOG_RECORD] {
+        assert!(self.length < 100, "a length has two digits");
         [
             b'a' + self.step.changed as u8,
             self.step.form.digit(),

@@ -1,5 +1,6 @@
 //! Logs in which the lengths are those of the run, made of any moves. They serve the tests, the
-//! comparison and the bench; nothing is judged by them.
+//! comparison and the bench. The lengths come from the same function that replay calls, so they do
+//! not judge it: the logs written by hand in the tests do, and so does the comparison.
 
 use crate::logs::{read_log, write_log, LogRecord, Rule};
 use crate::moves::{Form, Move};

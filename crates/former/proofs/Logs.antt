@@ -70,7 +70,7 @@ run_as_it_was tests S words log v passed =
       same_log = rw (same, fine_first tests _ passed) (log_as_it_was S (moves_within bytes (room_for log) S) _);
     }
 
--- the refusal of a turn of replay as it was: 12 alone
+-- the refusal of a turn of replay as it was: 12 alone, over the same moves
 abbrev pub former_turn_rule : Bool → List (List ℕ) → List ℕ → ℕ → Checked
 former_turn_rule backward S log d =
     let place : ℕ = place_at backward (length log / move_size) d in

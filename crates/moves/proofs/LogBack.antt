@@ -1,4 +1,5 @@
--- The log of a list of moves: it passes the tests where the moves lie between slots of the system, and holds that list.
+-- The log of a list of logged moves: read back, it tells of each what was written, and it passes the tests where the moves lie between slots
+-- of the system and the lengths have two digits.
 use Prim.Native.Nat.{◌%◌, ◌*◌, ◌+◌, ◌-◌, ◌/◌, ◌<◌, suc, zero, ℕ}
 use mathlib.Core.Bool.{◌&&◌, true}
 use mathlib.Core.List.{List, [], ◌++◌, ◌∷◌, append_assoc}

@@ -1,4 +1,4 @@
--- A log as its records: each is tested and read as at its own place in the log. And what a log that passes its tests tells of them.
+-- A log record by record: each is tested and read as at its own place in the log. And what a log that passes its tests tells of them.
 use Prim.Native.Nat.{◌%◌, ◌*◌, ◌+◌, ◌-◌, ◌/◌, ◌<◌, suc, zero, ℕ}
 use mathlib.Core.Bool.{Bool, false, true}
 use mathlib.Core.List.{List}

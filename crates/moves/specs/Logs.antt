@@ -17,7 +17,7 @@ use Rattle.moves.specs.declared.log.Logged.{Logged}
 abbrev pub move_size : ℕ
 move_size = 8
 
--- a move made on the words S as it is logged: with the rule that makes it, and "the changed word's new length"
+-- a move made on the words S as it is logged: with the rule of the next move on S, and "the changed word's new length"
 abbrev pub logged : List (List ℕ) → Move → Logged
 logged S m = record { made = m; rule = rule_of bytes S; new_length = length (moved_word bytes S m) }
 
@@ -46,7 +46,7 @@ move_at log j =
       other = get_or log (j * move_size + 2) 0 - 97;
     }
 
--- the rule that a letter names
+-- the rule that a letter names, which is s or h
 abbrev pub named_rule : ℕ → Rule
 named_rule letter = cond (eqb letter (rule_letter Shortening)) Shortening HalfEnd
 

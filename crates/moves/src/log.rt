@@ -12,7 +12,7 @@ use systems::{Form, Move, Rule};
 // The bytes of a log record.
 pub const MOVE: usize = 8;
 
-// A move as it is logged: with the rule that made it, and the changed word's new length.
+// A move as it is logged: with a rule, and the changed word's new length.
 #[derive(Clone, Copy, Debug, PartialEq, Eq)]
 pub struct Logged {
     pub made: Move,
@@ -40,7 +40,7 @@ fn named_form(digit: u8) -> Option<Form>
     }
 }
 
-// The rule that a letter names.
+// The rule that a letter names, if it is s or h.
 fn named_rule(letter: u8) -> Option<Rule>
     ensures { result ≡ cond (is_rule letter) (Some (named_rule letter)) None }
 {
@@ -51,7 +51,7 @@ fn named_rule(letter: u8) -> Option<Rule>
     }
 }
 
-// The number that two digits stand for.
+// The number that two bytes stand for, if they are digits.
 fn two_digits(tens: u8, ones: u8) -> Option<usize>
     ensures { result ≡ cond (is_ascii_digit tens && is_ascii_digit ones) (Some (number_in tens ones)) None }
 {

@@ -23,7 +23,7 @@ use Rattle.systems.specs.Rank.{none_blank, rank}
 use Rattle.systems.specs.Reduced.{Reduced}
 use Rattle.systems.specs.Rules.{moves_within, next, run_within}
 use Rattle.systems.proofs.Ending.{every_run-ends}
-use Rattle.systems.proofs.Finding.{by_half_end, by_shortening, half_end-keeps, moves_next, shortening-shorter}
+use Rattle.systems.proofs.Finding.{by_half_end, by_shortening, rule_keeps_length, moves_next, rule_shortens}
 use Rattle.systems.proofs.Undoing.{made_all-freely_reduced}
 use Rattle.systems.proofs.Equivalence.{freely_reduced-same}
 use Rattle.systems.proofs.Neither.{moves_again, moves-first, moves_fit, moves-over, next-none, run_ended, run-freely_reduced, run_length, run_valid}
@@ -148,8 +148,8 @@ module _ (s : List ℕ) (n : ℕ) where
       rw told (record {
         by_shortening = by_shortening bytes byte_laws before freely m more;
         by_half_end = by_half_end bytes byte_laws before freely m more;
-        shorter = shortening-shorter bytes byte_laws before freely m more;
-        same_length = half_end-keeps bytes byte_laws before freely m more;
+        shorter = rule_shortens bytes byte_laws before freely m more;
+        same_length = rule_keeps_length bytes byte_laws before freely m more;
         new_length = refl;
       })
 

@@ -50,7 +50,7 @@ pub record Reduces (given W L : List ℕ) (answer : Reduction) : Type 0 where
   -- "The moves are those of the rules below, in that order": the log holds those that the rules make, and after them neither rule applies
   pub moves : moves_in L ≡ moves_within bytes answer.moves (freely_reduced_words given)
   pub no_more_moves : EnoughMoves given answer.moves
-  -- each log record tells which rule made its move, on the words that the moves before it leave, and how long its word is afterwards
+  -- "Each log record tells the rule that made its move and the changed word's new length": on the words that the moves before it leave
   pub tells : (j : ℕ) → j < answer.moves → Tells (replayed false (freely_reduced_words given) (take j (moves_in L))) (logged_at L j)
   -- "it is the length of that list"
   pub count : answer.moves ≡ length (moves_in L)

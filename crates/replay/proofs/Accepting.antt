@@ -1,5 +1,5 @@
 -- Which runs are not refused: the log passes its tests, each word on the way has at most 63 letters, and each log record has the length of
--- its word. And that no run looks at the letters.
+-- its word. And that no run looks at the letters s and h.
 use Prim.Native.Nat.{◌*◌, ◌+◌, ◌-◌, ◌/◌, ◌<◌, ◌≤◌, ℕ}
 use mathlib.Core.Bool.{Bool, false, true}
 use mathlib.Core.List.{List, []}

@@ -101,10 +101,10 @@ module _ {A : Type 0} (G : Alphabet A) (L : AlphabetLaws G) (S : List (List A)) 
     | inr h ↦ h
   ]
 
-  pub shortening-shorter : rule_of G S ≡ Shortening → length (moved_word G S m) < length (word G S m.changed)
-  shortening-shorter r = shortening_shorter G L S freely m (by_shortening r)
+  pub rule_shortens : rule_of G S ≡ Shortening → length (moved_word G S m) < length (word G S m.changed)
+  rule_shortens r = shortening_shorter G L S freely m (by_shortening r)
 
-  pub half_end-keeps : rule_of G S ≡ HalfEnd → length (moved_word G S m) ≡ length (word G S m.changed)
-  half_end-keeps r =
+  pub rule_keeps_length : rule_of G S ≡ HalfEnd → length (moved_word G S m) ≡ length (word G S m.changed)
+  rule_keeps_length r =
       let h = by_half_end r in
       half_end-same-length G L S freely ((shortening-none G L S freely).0 h.0) m h.1

@@ -1,4 +1,5 @@
-// Systems of words: definitions and theorems on products, moves and Nielsen-reduced systems, and the factors and moves that they speak of.
+// Systems of words: definitions and theorems on products, moves and Nielsen-reduced systems, and the factors, moves and rules that they
+// speak of.
 #![tactic(auto)]
 
 ghost use Rattle.std.specs.Prelude.{◌<◌, ◌≡◌};
@@ -37,7 +38,7 @@ pub enum Rule {
     Shortening = 115,
 }
 
-// What a search finds: the next move, and the rule that makes it.
+// The next move, and the rule that makes it.
 #[derive(Clone, Copy, Debug, PartialEq, Eq)]
 pub struct Found {
     pub next: Move,

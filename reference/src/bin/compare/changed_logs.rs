@@ -60,8 +60,8 @@ pub fn wrong_length(random: &mut Random, right: usize) -> usize {
     }
 }
 
-/// A log of at least one move with one or two wrong lengths, a log record of other moves with its
-/// length, or two log records exchanged.
+/// A log of at least one move with one or two wrong lengths, another move with the same length, or two
+/// log records exchanged.
 pub fn with_other_lengths_or_moves(random: &mut Random, log: &[u8], slots: usize) -> Vec<u8> {
     let mut records = records_of_log(log);
     let places = [(); 2].map(|()| random.below(records.len()));
@@ -78,7 +78,7 @@ pub fn with_other_lengths_or_moves(random: &mut Random, log: &[u8], slots: usize
 }
 
 /// Lends the log with every byte of the log record at this place damaged, one after the other: with a
-/// telling byte, with the byte before and the byte after it, and with one bit changed.
+/// telling byte, with one less and one more, and with one bit changed.
 pub fn for_each_damaged_byte(
     random: &mut Random,
     log: &[u8],

@@ -81,8 +81,7 @@ fn how_far(moves: u64) -> &'static str {
     }
 }
 
-/// The direction of a call that was not refused for its system, its outcome, and how far its log was run
-/// before.
+/// The direction of a call, its outcome, and how far its log was run before.
 fn kind_of_call([_, log, backward]: [&[u8]; 3], answer: Answer) -> String {
     let direction = direction(backward);
     let moves = (log.len() / LOG_RECORD) as u64;
