@@ -33,7 +33,8 @@ int main(void) {
         "", "a", "b", "c", "d", "ab", "ac", "Bd", "ad", "BA", "CA", "Db", "DA", "Cd", "Cb", "Bc", "abac", "abBd", "acab", "adCA",
         "abab", "bcA", "abCA", "CdDb", "ba", "dA", "CbBd", "acCA", "abcd", "DbDbDb",
     };
-    uint8_t system[SUBGROUPS_RECORD * WORDS], words[SUBGROUPS_RECORD * WORDS], log[256 * SUBGROUPS_MOVE];
+    static uint8_t log[SUBGROUPS_LONGEST_LOG]; /* long enough for every system */
+    uint8_t system[SUBGROUPS_RECORD * WORDS], words[SUBGROUPS_RECORD * WORDS];
     subgroups_answer answer;
     int agreed = 0;
     put_system(system, given, WORDS);

@@ -42,8 +42,11 @@
  *            were, but for those of table after an answer. A refusal changes nothing but the answer, and the length
  *            that write_text gives, except that under SUBGROUPS_LOG_BUFFER_SHORT the log holds, as whole log records, the
  *            first moves that fit.
- *            How many moves a system takes is not known beforehand: 16 random words take some dozens, more than 1,000 have been
- *            seen, and no bound is promised. A caller that gets SUBGROUPS_LOG_BUFFER_SHORT lends a longer log and calls again.
+ *            How many moves a system takes is not known beforehand: 16 random words take some dozens, and more than 1,000 have
+ *            been seen. With m the number of records and g the letters of the given words after free reduction, the moves are
+ *            never more than 2 m (m - 1) (g + 1) + g, which for the largest system is SUBGROUPS_MOST_MOVES. A log with room for
+ *            that many never gets SUBGROUPS_LOG_BUFFER_SHORT, and one of SUBGROUPS_LONGEST_LOG bytes does not on any system. A
+ *            caller that lends less, and gets that refusal, lends a longer log and calls again.
  *            What is written (words, log, product, word, text, length, answer, the numbers of to_numbers, tidied, table) must
  *            not overlap any other buffer; buffers that are only read may. Where a buffer's length is 0 its pointer may be
  *            anything, NULL too; answer and length must not be NULL.
@@ -120,14 +123,16 @@ extern "C" {
 #endif
 
 enum {
-    SUBGROUPS_RECORD = 64,          /* the bytes of a record */
-    SUBGROUPS_LETTERS = 63,         /* the most letters of a word */
-    SUBGROUPS_SLOTS = 16,           /* the most records of a system */
-    SUBGROUPS_MOVE = 8,             /* the bytes of a log record, which is one move */
-    SUBGROUPS_TEXT = 256,           /* the most bytes of a text to read, and the room that write_text asks for */
-    SUBGROUPS_NUMBERS_RECORD = 128, /* the bytes of a record of numbers */
-    SUBGROUPS_EDGES = 1008,         /* the edges that trace asks for */
-    SUBGROUPS_LARGEST_NUMBER = 1000 /* the largest number of a generator */
+    SUBGROUPS_RECORD = 64,           /* the bytes of a record */
+    SUBGROUPS_LETTERS = 63,          /* the most letters of a word */
+    SUBGROUPS_SLOTS = 16,            /* the most records of a system */
+    SUBGROUPS_MOVE = 8,              /* the bytes of a log record, which is one move */
+    SUBGROUPS_MOST_MOVES = 485328,   /* no system takes more moves */
+    SUBGROUPS_LONGEST_LOG = 3882624, /* their bytes: a log of this length is never too short */
+    SUBGROUPS_TEXT = 256,            /* the most bytes of a text to read, and the room that write_text asks for */
+    SUBGROUPS_NUMBERS_RECORD = 128,  /* the bytes of a record of numbers */
+    SUBGROUPS_EDGES = 1008,          /* the edges that trace asks for */
+    SUBGROUPS_LARGEST_NUMBER = 1000  /* the largest number of a generator */
 };
 
 /* What a call says: answer.verdict. */

@@ -8,28 +8,30 @@ use mathlib.Core.Path.{◌∙◌, ◌≡◌, ap, refl, sym}
 use native.Mathlib.Omega.{arith}
 use lib.ListN.{length, take}
 use borrow.Author.Tests.{le-leb}
+use lib.Dec.{leb}
 use Rattle.words.specs.Alphabet.{bytes}
-use Rattle.words.proofs.Alphabet.{byte_laws, flip_byte_no_own_inverse}
 use Rattle.systems.specs.declared.Factor.{Factor}
 use Rattle.systems.specs.Rules.{next}
-use Rattle.systems.proofs.Ending.{every_run-ends}
 use Rattle.records.specs.Answers.{on_fine}
 use Rattle.records.specs.declared.answers.Verdict.{Verdict}
 use Rattle.records.specs.declared.answers.Verdict.TheVariants.{Done}
-use Rattle.records.specs.Refusals.{target_rules}
-use Rattle.slots.specs.Refusals.{system_room, system_rules}
+use Rattle.records.specs.Refusals.{◌and_then◌, must, target_rules}
+use Rattle.records.specs.declared.refusals.Reason.TheVariants.{ProductBufferShort}
+use Rattle.slots.specs.Refusals.{system_room, system_rules, word_room}
 use Rattle.slots.specs.Systems.{freely_reduced_words, slots}
-use Rattle.slots.proofs.Systems.{loaded_freely_reduced, room_fits}
+use Rattle.slots.proofs.Systems.{room_fits}
+use Rattle.slots.proofs.Numbers.{NumberedTo, must_numbered, room_numbered, system_numbered, target_numbered, then_numbered}
 use Rattle.moves.specs.Logs.{move_size}
 use Rattle.runs.specs.Runs.{room_for}
-use Rattle.reduction.specs.Meaning.{Reduces}
+use Rattle.reduction.specs.Meaning.{Reduces, most_moves_on}
 use Rattle.reduction.specs.Reduction.{log_after, reduction_of, run_tests, words_after}
 use Rattle.reduction.specs.declared.answers.Reduction.{Reduction}
-use Rattle.reduction.proofs.Meaning.{enough_passes, left_reduced, left_words, ran_ended, ran_reduces, ran_tests, ran_words, run_words, short_means}
+use Rattle.reduction.proofs.Bound.{most_moves_enough}
+use Rattle.reduction.proofs.Meaning.{bounded_moves, enough_passes, left_reduced, left_words, ran_ended, ran_reduces, ran_tests, ran_words, run_words, short_means}
 use Rattle.factoring.specs.TargetProduct.{is_found, product_after, product_for, target_word}
-use Rattle.membership.specs.Meaning.{InTurn, MemberMeans, NotRefused}
+use Rattle.membership.specs.Meaning.{EnoughRoom, InTurn, MemberMeans, NotRefused, RoomForMostMoves}
 use Rattle.asking.specs.Asking.{ask_found, ask_tests, asked_of, verdict_of}
-use Rattle.asking.specs.Meaning.{Answered, Decides}
+use Rattle.asking.specs.Meaning.{Answered, Decides, ThirdDemand}
 use Rattle.asking.proofs.Meaning.{ask_means, ask_passes, decides-equivalent, verdict_cases, verdict_unrefused}
 use Rattle.membership.specs.Membership.{member_answer, member_checked, member_found, member_log, member_product, member_tests, member_words}
 use Rattle.membership.proofs.Calls.{passed_fits, passed_product, passed_rules, passed_system}
@@ -130,6 +132,29 @@ unfolding member_tests
 tests_pass s t room product_room system target fits product =
     rw (system, target, room_fits (slots s * 64) room fits, le-leb 64 product_room product)
 
+-- the numbers of these tests are below 13
+tests_numbered : (s t : List ℕ) (room product_room : ℕ) → NumberedTo 12 (member_tests s t room product_room)
+unfolding member_tests
+tests_numbered s t room product_room =
+    let fits : Checked = must (leb 64 product_room) ProductBufferShort 0 in
+    then_numbered 12 (system_rules s) (target_rules t and_then word_room (slots s * 64) room and_then fits) (omega (arith, system_numbered s))
+    (then_numbered 12 (target_rules t) (word_room (slots s * 64) room and_then fits) (omega (arith, target_numbered t))
+    (then_numbered 12 (word_room (slots s * 64) room) fits (omega (arith, room_numbered (slots s * 64) room))
+    (must_numbered 12 (leb 64 product_room) ProductBufferShort 0 (omega arith))))
+
+-- a log of as many records as the rules make moves at most is room enough
+most_moves_room : (s t words log product : List ℕ) → RoomForMostMoves s t words log product → EnoughRoom s t words log product
+most_moves_room s t words log product room =
+    record {
+      system = room.system;
+      target_fits = room.target_fits;
+      words_fit = room.words_fit;
+      product_fits = room.product_fits;
+      enough_moves = most_moves_on s;
+      no_more_moves = most_moves_enough s;
+      log_fits = room.log_fits;
+    }
+
 -- the answer of member and what it wrote into the three buffers
 module _ (s t words log product : List ℕ) (a : Reduction) (words' log' product' : List ℕ) (answered : a ≡ member_answer s t words log product)
     (wrote : words' ≡ member_words s t words log product) (logged : log' ≡ member_log s t words log product)
@@ -140,6 +165,19 @@ module _ (s t words log product : List ℕ) (a : Reduction) (words' log' product
   passed_answer : Answered a.verdict → member_checked s t words log product ≡ Ok tt
   passed_answer told = unrefused_fine _ v (freely_reduced_words s) (room_for log) (answered_unrefused _ (rw answered at told))
 
+  demand_met : ThirdDemand (EnoughRoom s t words log product) s t (take (slots s * 64) words') (take 64 product') a.verdict
+  demand_met =
+      record {
+        answered =
+            λ room.
+            verdict_cases a.verdict (member_found s t words log product)
+            (verdict_is s t words log product
+            (enough_passes s log (member_tests s t (length words) (length product)) room.enough_moves
+            (tests_pass s t (length words) (length product) room.system room.target_fits room.words_fit room.product_fits) room.no_more_moves room.log_fits)
+            a answered);
+        decides = λ told. decides s t words log product (passed_answer told) a words' log' product' answered wrote logged gave told;
+      }
+
   -- are what reduce and ask in turn give
   pub member_turns : NotRefused a.verdict → InTurn s t words log product a words' log' product'
   member_turns told =
@@ -149,19 +187,12 @@ module _ (s t words log product : List ℕ) (a : Reduction) (words' log' product
   pub member_means : MemberMeans s t words log product a words' log' product'
   member_means =
       record {
-        third_demand =
-            record {
-              answered =
-                  λ room.
-                  verdict_cases a.verdict (member_found s t words log product)
-                  (verdict_is s t words log product
-                  (enough_passes s log (member_tests s t (length words) (length product)) room.enough_moves
-                  (tests_pass s t (length words) (length product) room.system room.target_fits room.words_fit room.product_fits) room.no_more_moves room.log_fits)
-                  a answered);
-              decides = λ told. decides s t words log product (passed_answer told) a words' log' product' answered wrote logged gave told;
-            };
+        third_demand = demand_met;
+        with_most_moves = record { answered = λ room. demand_met.answered (most_moves_room s t words log product room); decides = demand_met.decides };
         reduces = λ told. given-same s t words log product (passed_answer told) a words' log' product' answered wrote logged gave;
-        finite = every_run-ends bytes byte_laws flip_byte_no_own_inverse (freely_reduced_words s) (loaded_freely_reduced s);
+        bounded =
+            bounded_moves s log (member_tests s t (length words) (length product)) v (verdict_unrefused (is_found (member_found s t words log product)))
+            (tests_numbered s t (length words) (length product)) (passed_system s t (length words) (length product)) a answered;
         log_short =
             λ system target fits product_fits enough ended.
             short_means s log (member_tests s t (length words) (length product))

@@ -8,7 +8,7 @@ use Rattle.records.specs.declared.answers.Verdict.{Verdict}
 use Rattle.records.specs.declared.answers.Verdict.TheVariants.{Done, Refused}
 use Rattle.moves.specs.Logs.{move_size}
 use Rattle.records.specs.Refusals.{target_rules}
-use Rattle.reduction.specs.Meaning.{EnoughMoves, LogShort, Reduces, logged_moves}
+use Rattle.reduction.specs.Meaning.{Bounded, EnoughMoves, LogShort, Reduces, logged_moves, most_moves_on}
 use Rattle.reduction.specs.Reduction.{reduce_answer, reduce_log, reduce_words}
 use Rattle.reduction.specs.declared.answers.Reduction.{Reduction}
 use Rattle.asking.specs.Asking.{ask_answer, ask_product}
@@ -27,13 +27,24 @@ pub record EnoughRoom (given target words log product : List ℕ) : Type 0 where
   pub no_more_moves : EnoughMoves given enough_moves
   pub log_fits : enough_moves * move_size ≤ length log
 
+-- the same, and a log of as many records as the rules make moves at most: no premise on the moves that they make
+pub record RoomForMostMoves (given target words log product : List ℕ) : Type 0 where
+  pub system : system_rules given ≡ Ok tt
+  pub target_fits : target_rules target ≡ Ok tt
+  pub words_fit : slots given * 64 ≤ length words
+  pub product_fits : 64 ≤ length product
+  pub log_fits : most_moves_on given * move_size ≤ length log
+
 -- what member's answer means: W, L and P are what it wrote
 pub record MemberMeans (given target words log product : List ℕ) (answer : Reduction) (words' log' product' : List ℕ) : Type 0 where
   pub third_demand : ThirdDemand (EnoughRoom given target words log product) given target (take (slots given * 64) words') (take 64 product') answer.verdict
+  -- "A log of as many records as the moves can be at most is enough"
+  pub with_most_moves :
+      ThirdDemand (RoomForMostMoves given target words log product) given target (take (slots given * 64) words') (take 64 product') answer.verdict
   -- W, L and the numbers are those of reduce, with all that they mean
   pub reduces : Answered answer.verdict → Reduces given (take (slots given * 64) words') (take (answer.moves * move_size) log') answer
-  -- the moves that the rules make are finitely many
-  pub finite : (enough : ℕ) × EnoughMoves given enough
+  -- the moves that the rules make are never more than a number that the system tells
+  pub bounded : Bounded given log answer
   -- where there is room for all but the moves, the call is refused with 13
   pub log_short : system_rules given ≡ Ok tt → target_rules target ≡ Ok tt → slots given * 64 ≤ length words → 64 ≤ length product
       → (enough : ℕ) → EnoughMoves given enough → LogShort (logged_moves given enough) log log' answer

@@ -22,7 +22,6 @@ use Rattle.systems.specs.Products.{Equivalent, FreelyReduced, Independent}
 use Rattle.systems.specs.Rank.{none_blank, rank}
 use Rattle.systems.specs.Reduced.{Reduced}
 use Rattle.systems.specs.Rules.{moves_within, next, run_within}
-use Rattle.systems.proofs.Ending.{every_run-ends}
 use Rattle.systems.proofs.Finding.{by_half_end, by_shortening, rule_keeps_length, moves_next, rule_shortens}
 use Rattle.systems.proofs.Undoing.{made_all-freely_reduced}
 use Rattle.systems.proofs.Equivalence.{freely_reduced-same}
@@ -33,21 +32,23 @@ use Rattle.records.specs.Refusals.{must}
 use Rattle.records.specs.declared.answers.Verdict.{Verdict}
 use Rattle.records.specs.declared.answers.Verdict.TheVariants.{Done}
 use Rattle.records.proofs.Chains.{answered, fine_first, fine_next, must_fine}
-use Rattle.slots.specs.Refusals.{system_room, system_rules}
+use Rattle.slots.specs.Refusals.{system_room, system_rules, word_room}
 use Rattle.slots.specs.Systems.{AllShort, LetterWords, bytes_of, freely_reduced_words, slots, system_of}
 use Rattle.slots.proofs.RoundTrip.{bytes_of-length, bytes_of-slots, reduced_letters, reduced-short, system_back, system_passes, words-length}
 use Rattle.slots.proofs.Systems.{loaded_freely_reduced, room_fits, system-few}
+use Rattle.slots.proofs.Numbers.{NumberedTo, room_numbered, system_numbered, then_numbered}
 use Rattle.moves.specs.Logs.{logged_all, log_of, log_rules, logged, logged_at, move_at, move_size}
 use Rattle.moves.proofs.LogOfMoves.{logged_all_first, all_loggable, record_logged, logged_all-length, log_of-moves, record_move}
 use Rattle.moves.proofs.LogBack.{log_of-length, log_of_passes}
 use Rattle.replay.specs.Replay.{replay_rules, run_rules}
 use Rattle.replay.proofs.Accepting.{replay_accepts, run_accepts, tells_backward, tells_forward}
 use Rattle.runs.specs.Runs.{room_for, stopped}
-use Rattle.reduction.specs.Meaning.{EnoughMoves, LogShort, ReduceMeans, Reduces, Tells, TestMeans, logged_moves}
+use Rattle.reduction.specs.Meaning.{Bounded, EnoughMoves, LogShort, ReduceMeans, Reduces, Tells, TestMeans, logged_moves, most_moves_on, most_moves_on_any}
 use Rattle.reduction.specs.Reduction.{log_after, reduce_answer, reduce_log, reduce_tests, reduce_words, reduction_of, run_tests, test_answer, tested_of, words_after}
 use Rattle.reduction.specs.declared.answers.Reduction.{Reduction}
 use Rattle.reduction.specs.declared.answers.Tested.{Tested}
 use Rattle.reduction.proofs.RoundTrip.{letters_made_all}
+use Rattle.reduction.proofs.Bound.{moves_never_more, most_moves_enough, no_more_on_any}
 use Rattle.records.specs.declared.refusals.Reason.TheVariants.{LogBufferShort}
 use Rattle.std.specs.Prelude.{Err, Ok}
 use Rattle.records.specs.Refusals.{Checked}
@@ -313,6 +314,32 @@ module _ (s log : List ℕ) (tests : Checked) (passed : tests ≡ Ok tt) (enough
             ∙ ap log_of (ap (logged_all (freely_reduced_words s)) first ∙ logged_all_first (room_for log) (freely_reduced_words s) (run_moves s enough));
       }
 
+-- a run whose tests have numbers below 13, and whose log has room for the most moves, does not get 13
+never_short : (s log : List ℕ) (tests : Checked) → NumberedTo 12 tests → (v : Verdict) → refusal_number v ≡ 0 → (most : ℕ)
+    → (tests ≡ Ok tt → most_moves_on s ≤ most) → most * move_size ≤ length log
+    → refusal_number (reduction_of (run_tests tests (freely_reduced_words s) (room_for log)) v (freely_reduced_words s) (room_for log)).verdict ≡ 13
+    → ⊥
+never_short s log (Ok _) few v unrefused most within room e =
+    let fits : most_moves_on s * move_size ≤ length log = omega (arith, within refl) in
+    let passed = enough_passes s log (Ok tt) (most_moves_on s) refl (most_moves_enough s) fits in
+    omega (arith, unrefused, rw passed at e)
+never_short s log (Err f) few v unrefused most within room e = omega (arith, few, e)
+
+-- so the moves are bounded, whatever the tests and the verdict
+pub bounded_moves : (s log : List ℕ) (tests : Checked) (v : Verdict) → refusal_number v ≡ 0 → NumberedTo 12 tests
+    → (tests ≡ Ok tt → system_rules s ≡ Ok tt) → (a : Reduction)
+    → a ≡ reduction_of (run_tests tests (freely_reduced_words s) (room_for log)) v (freely_reduced_words s) (room_for log) → Bounded s log a
+bounded_moves s log tests v unrefused few system a answered =
+    record {
+      never_more = moves_never_more s;
+      enough = most_moves_enough s;
+      largest = no_more_on_any s;
+      never_13 = λ room e. never_short s log tests few v unrefused (most_moves_on s) (λ passed. omega arith) room (rw answered at e);
+      never_13_on_any =
+          λ room e.
+          never_short s log tests few v unrefused most_moves_on_any (λ passed. no_more_on_any s (system passed)) room (rw answered at e);
+    }
+
 -- reduce: a call that is done has passed its tests
 reduction_fine : (c : Checked) (S : List (List ℕ)) (n : ℕ) → (reduction_of c Done S n).verdict ≡ Done → c ≡ Ok tt
 reduction_fine (Ok _) S n e = refl
@@ -324,7 +351,11 @@ pub reduce_means : (s words log : List ℕ) (a : Reduction) (words' log' : List 
 unfolding system_room
 reduce_means s words log a words' log' answered wrote logged =
     record {
-      finite = every_run-ends bytes byte_laws flip_byte_no_own_inverse (freely_reduced_words s) (loaded_freely_reduced s);
+      bounded =
+          bounded_moves s log (system_room s (length words)) Done refl
+          (then_numbered 12 (system_rules s) (word_room (slots s * 64) (length words)) (omega (arith, system_numbered s))
+          (omega (arith, room_numbered (slots s * 64) (length words))))
+          (fine_first (system_rules s) (word_room (slots s * 64) (length words))) a answered;
       done =
           λ system fits enough ended room.
           ap (λ (r : Reduction). r.verdict) (answered

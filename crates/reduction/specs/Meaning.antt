@@ -7,6 +7,7 @@ use Rattle.systems.specs.Moves.{moved_word}
 use Rattle.systems.specs.Products.{FreelyReduced, Equivalent, Independent, word}
 use Rattle.systems.specs.Reduced.{Reduced}
 use Rattle.systems.specs.Rules.{half_end, moves_within, next, run_within, shortening}
+use Rattle.systems.specs.Bound.{letters_of, most_moves}
 use Rattle.systems.specs.Rank.{none_blank, rank}
 use Rattle.slots.specs.Systems.{slots, system_of, freely_reduced_words}
 use Rattle.slots.specs.Refusals.{system_rules}
@@ -23,6 +24,14 @@ use Rattle.std.specs.Prelude.{Ok}
 -- neither rule applies after so many moves on the freely reduced words of a system
 abbrev pub EnoughMoves : List ℕ → ℕ → Type 0
 EnoughMoves given n = next bytes (run_within bytes n (freely_reduced_words given)) ≡ None
+
+-- "Let g be the letters of the given words after free reduction and m the number of records": the most moves that the rules make on a system
+abbrev pub most_moves_on : List ℕ → ℕ
+most_moves_on given = most_moves (slots given) (letters_of (freely_reduced_words given))
+
+-- and on the largest, of 16 records with 63 letters each: "For the largest system that is 485,328 moves."
+abbrev pub most_moves_on_any : ℕ
+most_moves_on_any = 485328
 
 -- the moves that the rules make on these words, at most n of them, as they are logged
 abbrev pub logged_moves : List ℕ → ℕ → List Logged
@@ -77,11 +86,23 @@ pub record LogShort (moves : List Logged) (log log' : List ℕ) (answer : Reduct
   -- "Under 13 the log holds, as whole records, the first moves that fit"
   pub first_that_fit : refusal_number answer.verdict ≡ 13 → take (room_for log * move_size) log' ≡ log_of (take (room_for log) moves)
 
--- the moves that the rules make are finitely many; wherever a well-formed system's words and moves have room, reduce is done; where only
--- the moves have none, it is refused with 13; and whenever it is done, W is what it wrote into the words buffer, and L what it wrote into
--- the log
+-- how long the log can get, of a given system, the log that was lent and the answer
+pub record Bounded (given log : List ℕ) (answer : Reduction) : Type 0 where
+  -- "the moves are never more than 2 times m times (m - 1) times (g + 1), plus g", whatever room there is
+  pub never_more : (room : ℕ) → length (moves_within bytes room (freely_reduced_words given)) ≤ most_moves_on given
+  -- after so many neither rule applies
+  pub enough : EnoughMoves given (most_moves_on given)
+  -- "For the largest system that is 485,328 moves": no system takes more
+  pub largest : system_rules given ≡ Ok tt → most_moves_on given ≤ most_moves_on_any
+  -- "With a log of that many records, 13 doesn't occur"
+  pub never_13 : most_moves_on given * move_size ≤ length log → refusal_number answer.verdict ≡ 13 → ⊥
+  pub never_13_on_any : most_moves_on_any * move_size ≤ length log → refusal_number answer.verdict ≡ 13 → ⊥
+
+-- the moves that the rules make are never more than a number that the system tells; wherever a well-formed system's words and moves have
+-- room, reduce is done; where only the moves have none, it is refused with 13; and whenever it is done, W is what it wrote into the words
+-- buffer, and L what it wrote into the log
 pub record ReduceMeans (given words log : List ℕ) (answer : Reduction) (words' log' : List ℕ) : Type 0 where
-  pub finite : (enough : ℕ) × EnoughMoves given enough
+  pub bounded : Bounded given log answer
   pub done : system_rules given ≡ Ok tt → slots given * 64 ≤ length words
       → (enough : ℕ) → EnoughMoves given enough → enough * move_size ≤ length log → answer.verdict ≡ Done
   pub log_short : system_rules given ≡ Ok tt → slots given * 64 ≤ length words

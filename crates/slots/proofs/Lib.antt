@@ -4,3 +4,4 @@ pub mod RoundTrip
 pub mod Arrays
 pub mod Factors
 pub mod Pairs
+pub mod Numbers

@@ -14,6 +14,7 @@ pub mod HalfTaken
 pub mod Neither
 pub mod Totals
 pub mod Ending
+pub mod Bound
 pub mod ProductLemma
 pub mod Unique
 pub mod Leading

@@ -1,5 +1,5 @@
 -- Sums over the slots of a system, and counts of the slots where a test holds.
-use Prim.Native.Nat.{ℕ, zero, suc, ◌+◌, ◌*◌, ◌≤◌, ◌<◌}
+use Prim.Native.Nat.{ℕ, zero, suc, ◌+◌, ◌-◌, ◌*◌, ◌≤◌, ◌<◌}
 use mathlib.Core.Path.{◌≡◌, refl}
 use mathlib.Core.Bool.{Bool, true, false}
 use native.Mathlib.Omega.{arith}
@@ -25,16 +25,21 @@ total_less f g (suc n) i l s h = elim (dec_lt i n) [
       omega (arith, s', total_le f g n (λ j q. h j (omega arith)))
 ]
 
-pub total_each : (f : ℕ → ℕ) (n i : ℕ) → i < n → f i ≤ total f n
-total_each f zero i l = absurd (omega arith)
-total_each f (suc n) i l = elim (dec_lt i n) [
-  | yes p ↦ omega (arith, total_each f n i p)
-  | no p ↦ let e : i ≡ n = omega arith in rw e (omega arith)
-]
+-- at most b each
+pub total_most : (f : ℕ → ℕ) (n b : ℕ) → ((j : ℕ) → j < n → f j ≤ b) → total f n ≤ n * b
+total_most f zero b h = omega arith
+total_most f (suc n) b h = omega (arith, total_most f n b (λ j l. h j (omega arith)), h n (omega arith))
 
-pub total_twice : (f : ℕ → ℕ) (n : ℕ) → ((j : ℕ) → f j ≤ 2) → total f n ≤ 2 * n
-total_twice f zero h = omega arith
-total_twice f (suc n) h = omega (arith, total_twice f n h, h n)
+-- at most two each, and none from one slot
+pub total_but_one : (f : ℕ → ℕ) (n i : ℕ) → i < n → f i ≡ 0 → ((j : ℕ) → f j ≤ 2) → total f n ≤ 2 * (n - 1)
+total_but_one f zero i l z h = absurd (omega arith)
+total_but_one f (suc n) i l z h = elim (dec_lt i n) [
+  | yes p ↦ omega (arith, total_but_one f n i p z h, h n)
+  | no p ↦
+      let e : i ≡ n = omega arith in
+      let z' : f n ≡ 0 = rw e at z in
+      omega (arith, z', total_most f n 2 (λ j q. h j))
+]
 
 -- 1 where a test holds, and 0 elsewhere
 abbrev pub bit : Bool → ℕ
