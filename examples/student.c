@@ -6,6 +6,9 @@
 
 enum { WORDS = 3, TARGETS = 30 };
 
+/* So many words have at most so many letters, and with these the moves are never more than MOVES: the log is never too short. */
+enum { LETTERS = WORDS * SUBGROUPS_LETTERS, MOVES = 2 * WORDS * (WORDS - 1) * (LETTERS + 1) + LETTERS };
+
 /* Prints what a target is over the reduced words, and answers whether the product multiplies out to it. */
 static int ask(const uint8_t *words, size_t words_len, const char *target) {
     uint8_t record[SUBGROUPS_RECORD], product[SUBGROUPS_RECORD], word[SUBGROUPS_RECORD], tidied[SUBGROUPS_RECORD];
@@ -33,8 +36,7 @@ int main(void) {
         "", "a", "b", "c", "d", "ab", "ac", "Bd", "ad", "BA", "CA", "Db", "DA", "Cd", "Cb", "Bc", "abac", "abBd", "acab", "adCA",
         "abab", "bcA", "abCA", "CdDb", "ba", "dA", "CbBd", "acCA", "abcd", "DbDbDb",
     };
-    static uint8_t log[SUBGROUPS_LONGEST_LOG]; /* long enough for every system */
-    uint8_t system[SUBGROUPS_RECORD * WORDS], words[SUBGROUPS_RECORD * WORDS];
+    uint8_t system[SUBGROUPS_RECORD * WORDS], words[SUBGROUPS_RECORD * WORDS], log[MOVES * SUBGROUPS_MOVE];
     subgroups_answer answer;
     int agreed = 0;
     put_system(system, given, WORDS);

@@ -128,7 +128,7 @@ enum {
     SUBGROUPS_SLOTS = 16,            /* the most records of a system */
     SUBGROUPS_MOVE = 8,              /* the bytes of a log record, which is one move */
     SUBGROUPS_MOST_MOVES = 485328,   /* no system takes more moves */
-    SUBGROUPS_LONGEST_LOG = 3882624, /* their bytes: a log of this length is never too short */
+    SUBGROUPS_LONGEST_LOG = 3882624, /* the bytes of so many log records: such a log is never too short */
     SUBGROUPS_TEXT = 256,            /* the most bytes of a text to read, and the room that write_text asks for */
     SUBGROUPS_NUMBERS_RECORD = 128,  /* the bytes of a record of numbers */
     SUBGROUPS_EDGES = 1008,          /* the edges that trace asks for */

@@ -17,10 +17,10 @@ use Rattle.records.specs.declared.answers.Verdict.{Verdict}
 use Rattle.records.specs.declared.answers.Verdict.TheVariants.{Done}
 use Rattle.records.specs.Refusals.{◌and_then◌, must, target_rules}
 use Rattle.records.specs.declared.refusals.Reason.TheVariants.{ProductBufferShort}
+use Rattle.records.proofs.ByNumber.{NumberedTo, must_numbered, target_numbered, then_numbered}
 use Rattle.slots.specs.Refusals.{system_room, system_rules, word_room}
 use Rattle.slots.specs.Systems.{freely_reduced_words, slots}
-use Rattle.slots.proofs.Systems.{room_fits}
-use Rattle.slots.proofs.Numbers.{NumberedTo, must_numbered, room_numbered, system_numbered, target_numbered, then_numbered}
+use Rattle.slots.proofs.Systems.{room_fits, room_numbered, system_numbered}
 use Rattle.moves.specs.Logs.{move_size}
 use Rattle.runs.specs.Runs.{room_for}
 use Rattle.reduction.specs.Meaning.{Reduces, most_moves_on}

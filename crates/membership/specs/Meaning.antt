@@ -27,7 +27,7 @@ pub record EnoughRoom (given target words log product : List ℕ) : Type 0 where
   pub no_more_moves : EnoughMoves given enough_moves
   pub log_fits : enough_moves * move_size ≤ length log
 
--- the same, and a log of as many records as the rules make moves at most: no premise on the moves that they make
+-- the same with a log of as many records as the moves can be at most: no premise on the moves that the rules make
 pub record RoomForMostMoves (given target words log product : List ℕ) : Type 0 where
   pub system : system_rules given ≡ Ok tt
   pub target_fits : target_rules target ≡ Ok tt
@@ -43,7 +43,7 @@ pub record MemberMeans (given target words log product : List ℕ) (answer : Red
       ThirdDemand (RoomForMostMoves given target words log product) given target (take (slots given * 64) words') (take 64 product') answer.verdict
   -- W, L and the numbers are those of reduce, with all that they mean
   pub reduces : Answered answer.verdict → Reduces given (take (slots given * 64) words') (take (answer.moves * move_size) log') answer
-  -- the moves that the rules make are never more than a number that the system tells
+  -- the moves that the rules make are never more than the bound
   pub bounded : Bounded given log answer
   -- where there is room for all but the moves, the call is refused with 13
   pub log_short : system_rules given ≡ Ok tt → target_rules target ≡ Ok tt → slots given * 64 ≤ length words → 64 ≤ length product

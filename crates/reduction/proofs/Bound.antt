@@ -1,5 +1,5 @@
--- How long a log can get: what the bound on the moves says of a given system, and its number for the largest.
-use Prim.Native.Nat.{◌*◌, ◌≤◌, ℕ}
+-- How long a log can get: the bound on the moves of a given system, and its number for the largest.
+use Prim.Native.Nat.{◌≤◌, ℕ}
 use mathlib.Core.List.{List}
 use mathlib.Core.Path.{◌≡◌, ap, refl}
 use native.Mathlib.Omega.{arith}
@@ -16,9 +16,9 @@ use Rattle.slots.proofs.RoundTrip.{reduced-short, words-length}
 use Rattle.slots.proofs.Systems.{loaded_freely_reduced, system-few}
 use Rattle.reduction.specs.Meaning.{EnoughMoves, most_moves_on, most_moves_on_any}
 
--- "For the largest system that is 485,328 moves.": 16 records of 63 letters
-pub most_moves_on_largest : most_moves 16 (16 * 63) ≡ most_moves_on_any
-most_moves_on_largest = refl
+-- "For the largest system that is 485,328 moves."
+pub largest_bound : most_moves_on_any ≡ 485328
+largest_bound = refl
 
 -- the number of records is that of the words
 same_bound : (s : List ℕ) → most_moves (length (freely_reduced_words s)) (letters_of (freely_reduced_words s)) ≡ most_moves_on s
@@ -37,11 +37,10 @@ most_moves_enough s =
     every_run_ends bytes byte_laws flip_byte_no_own_inverse (freely_reduced_words s) (loaded_freely_reduced s) (most_moves_on s)
     (omega (arith, same_bound s))
 
-pub no_more_on_any : (s : List ℕ) → system_rules s ≡ Ok tt → most_moves_on s ≤ most_moves_on_any
-no_more_on_any s system =
+pub none_larger : (s : List ℕ) → system_rules s ≡ Ok tt → most_moves_on s ≤ most_moves_on_any
+none_larger s system =
     omega (
       arith,
       same_bound s,
       most_moves_within bytes (freely_reduced_words s) 16 63 (omega (arith, words-length s, system-few s system)) (reduced-short s),
-      most_moves_on_largest,
     )

@@ -31,12 +31,12 @@ use Rattle.records.specs.Answers.{on_fine, refusal_number}
 use Rattle.records.specs.Refusals.{must}
 use Rattle.records.specs.declared.answers.Verdict.{Verdict}
 use Rattle.records.specs.declared.answers.Verdict.TheVariants.{Done}
+use Rattle.records.proofs.ByNumber.{NumberedTo, then_numbered}
 use Rattle.records.proofs.Chains.{answered, fine_first, fine_next, must_fine}
 use Rattle.slots.specs.Refusals.{system_room, system_rules, word_room}
 use Rattle.slots.specs.Systems.{AllShort, LetterWords, bytes_of, freely_reduced_words, slots, system_of}
 use Rattle.slots.proofs.RoundTrip.{bytes_of-length, bytes_of-slots, reduced_letters, reduced-short, system_back, system_passes, words-length}
-use Rattle.slots.proofs.Systems.{loaded_freely_reduced, room_fits, system-few}
-use Rattle.slots.proofs.Numbers.{NumberedTo, room_numbered, system_numbered, then_numbered}
+use Rattle.slots.proofs.Systems.{loaded_freely_reduced, room_fits, room_numbered, system_numbered, system-few}
 use Rattle.moves.specs.Logs.{logged_all, log_of, log_rules, logged, logged_at, move_at, move_size}
 use Rattle.moves.proofs.LogOfMoves.{logged_all_first, all_loggable, record_logged, logged_all-length, log_of-moves, record_move}
 use Rattle.moves.proofs.LogBack.{log_of-length, log_of_passes}
@@ -48,7 +48,7 @@ use Rattle.reduction.specs.Reduction.{log_after, reduce_answer, reduce_log, redu
 use Rattle.reduction.specs.declared.answers.Reduction.{Reduction}
 use Rattle.reduction.specs.declared.answers.Tested.{Tested}
 use Rattle.reduction.proofs.RoundTrip.{letters_made_all}
-use Rattle.reduction.proofs.Bound.{moves_never_more, most_moves_enough, no_more_on_any}
+use Rattle.reduction.proofs.Bound.{largest_bound, moves_never_more, most_moves_enough, none_larger}
 use Rattle.records.specs.declared.refusals.Reason.TheVariants.{LogBufferShort}
 use Rattle.std.specs.Prelude.{Err, Ok}
 use Rattle.records.specs.Refusals.{Checked}
@@ -325,7 +325,7 @@ never_short s log (Ok _) few v unrefused most within room e =
     omega (arith, unrefused, rw passed at e)
 never_short s log (Err f) few v unrefused most within room e = omega (arith, few, e)
 
--- so the moves are bounded, whatever the tests and the verdict
+-- so the moves are bounded, whatever the verdict
 pub bounded_moves : (s log : List ℕ) (tests : Checked) (v : Verdict) → refusal_number v ≡ 0 → NumberedTo 12 tests
     → (tests ≡ Ok tt → system_rules s ≡ Ok tt) → (a : Reduction)
     → a ≡ reduction_of (run_tests tests (freely_reduced_words s) (room_for log)) v (freely_reduced_words s) (room_for log) → Bounded s log a
@@ -333,11 +333,12 @@ bounded_moves s log tests v unrefused few system a answered =
     record {
       never_more = moves_never_more s;
       enough = most_moves_enough s;
-      largest = no_more_on_any s;
+      largest = largest_bound;
+      none_larger = none_larger s;
       never_13 = λ room e. never_short s log tests few v unrefused (most_moves_on s) (λ passed. omega arith) room (rw answered at e);
       never_13_on_any =
           λ room e.
-          never_short s log tests few v unrefused most_moves_on_any (λ passed. no_more_on_any s (system passed)) room (rw answered at e);
+          never_short s log tests few v unrefused most_moves_on_any (λ passed. none_larger s (system passed)) room (rw answered at e);
     }
 
 -- reduce: a call that is done has passed its tests

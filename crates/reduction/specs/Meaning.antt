@@ -25,13 +25,14 @@ use Rattle.std.specs.Prelude.{Ok}
 abbrev pub EnoughMoves : List ℕ → ℕ → Type 0
 EnoughMoves given n = next bytes (run_within bytes n (freely_reduced_words given)) ≡ None
 
--- "Let g be the letters of the given words after free reduction and m the number of records": the most moves that the rules make on a system
+-- the bound on the moves that the rules make on a system: "Let g be the letters of the given words after free reduction and m the number of
+-- records"
 abbrev pub most_moves_on : List ℕ → ℕ
 most_moves_on given = most_moves (slots given) (letters_of (freely_reduced_words given))
 
--- and on the largest, of 16 records with 63 letters each: "For the largest system that is 485,328 moves."
+-- "For the largest system", of 16 records with 63 letters each
 abbrev pub most_moves_on_any : ℕ
-most_moves_on_any = 485328
+most_moves_on_any = most_moves 16 (16 * 63)
 
 -- the moves that the rules make on these words, at most n of them, as they are logged
 abbrev pub logged_moves : List ℕ → ℕ → List Logged
@@ -86,21 +87,22 @@ pub record LogShort (moves : List Logged) (log log' : List ℕ) (answer : Reduct
   -- "Under 13 the log holds, as whole records, the first moves that fit"
   pub first_that_fit : refusal_number answer.verdict ≡ 13 → take (room_for log * move_size) log' ≡ log_of (take (room_for log) moves)
 
--- how long the log can get, of a given system, the log that was lent and the answer
+-- "How long a log can get": the bound on the moves of a given system, and that 13 does not occur with a log of so many records
 pub record Bounded (given log : List ℕ) (answer : Reduction) : Type 0 where
   -- "the moves are never more than 2 times m times (m - 1) times (g + 1), plus g", whatever room there is
   pub never_more : (room : ℕ) → length (moves_within bytes room (freely_reduced_words given)) ≤ most_moves_on given
   -- after so many neither rule applies
   pub enough : EnoughMoves given (most_moves_on given)
-  -- "For the largest system that is 485,328 moves": no system takes more
-  pub largest : system_rules given ≡ Ok tt → most_moves_on given ≤ most_moves_on_any
-  -- "With a log of that many records, 13 doesn't occur"
+  -- "For the largest system that is 485,328 moves.", and no system has a larger bound
+  pub largest : most_moves_on_any ≡ 485328
+  pub none_larger : system_rules given ≡ Ok tt → most_moves_on given ≤ most_moves_on_any
+  -- "With a log of that many records, 13 doesn't occur": as many as the given system's bound, or as the largest's
   pub never_13 : most_moves_on given * move_size ≤ length log → refusal_number answer.verdict ≡ 13 → ⊥
   pub never_13_on_any : most_moves_on_any * move_size ≤ length log → refusal_number answer.verdict ≡ 13 → ⊥
 
--- the moves that the rules make are never more than a number that the system tells; wherever a well-formed system's words and moves have
--- room, reduce is done; where only the moves have none, it is refused with 13; and whenever it is done, W is what it wrote into the words
--- buffer, and L what it wrote into the log
+-- the moves that the rules make are never more than the bound; wherever a well-formed system's words and moves have room, reduce is done;
+-- where only the moves have none, it is refused with 13; and whenever it is done, W is what it wrote into the words buffer, and L what it
+-- wrote into the log
 pub record ReduceMeans (given words log : List ℕ) (answer : Reduction) (words' log' : List ℕ) : Type 0 where
   pub bounded : Bounded given log answer
   pub done : system_rules given ≡ Ok tt → slots given * 64 ≤ length words

@@ -4,4 +4,3 @@ pub mod RoundTrip
 pub mod Arrays
 pub mod Factors
 pub mod Pairs
-pub mod Numbers

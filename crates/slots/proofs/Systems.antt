@@ -17,8 +17,9 @@ use Rattle.words.proofs.Alphabet.{byte_laws}
 use Rattle.systems.specs.Products.{FreelyReduced}
 use Rattle.systems.proofs.Equivalence.{words-freely_reduced}
 use Rattle.records.specs.Records.{blanks, record_of}
-use Rattle.records.specs.Refusals.{each_below, must, record_rules, Checked}
+use Rattle.records.specs.Refusals.{◌and_then◌, each_below, must, record_rules, Checked}
 use Rattle.records.proofs.Chains.{fine_first, fine_next, must_fine}
+use Rattle.records.proofs.ByNumber.{NumberedTo, each_numbered, must_numbered, record_numbered, then_numbered}
 use Rattle.slots.specs.Refusals.{slot_rules, system_room, system_rules, word_room}
 use Rattle.slots.specs.Systems.{AllShort, bytes_of, freely_reduced_words, record_at, slots, system_of}
 use Rattle.records.specs.declared.refusals.Reason.TheVariants.{SystemTooLong, SystemUneven, WordsBufferShort}
@@ -119,3 +120,17 @@ not_empty_told [] true told = refl
 not_empty_told [] false told = absurd (true≢false (sym (told.1 refl)))
 not_empty_told (x ∷ w) true told = absurd (cons≢nil (told.0 refl))
 not_empty_told (x ∷ w) false told = refl
+
+-- a system's tests give 1 to 5
+pub system_numbered : (s : List ℕ) → NumberedTo 5 (system_rules s)
+unfolding system_rules
+system_numbered s =
+    then_numbered 5 (must (leb (length s) 1024) SystemTooLong 0) (must (eqb (length s % 64) 0) SystemUneven 0 and_then each_below (slot_rules s) (slots s))
+    (must_numbered 5 (leb (length s) 1024) SystemTooLong 0 (omega arith))
+    (then_numbered 5 (must (eqb (length s % 64) 0) SystemUneven 0) (each_below (slot_rules s) (slots s))
+    (must_numbered 5 (eqb (length s % 64) 0) SystemUneven 0 (omega arith)) (each_numbered 5 (slot_rules s) (slots s) (λ k. record_numbered _ _)))
+
+-- and room for its words 10
+pub room_numbered : (output room : ℕ) → NumberedTo 10 (word_room output room)
+unfolding word_room
+room_numbered output room = must_numbered 10 (leb output room) WordsBufferShort 0 (omega arith)

@@ -1,6 +1,6 @@
 -- How many moves the rules make at most on m words of g letters in all: "never more than 2 times m times (m - 1) times (g + 1), plus g". At
--- most g moves shorten, and they leave g + 1 stretches between them; in a stretch each of the m words is chosen in one row of moves, and each
--- of these takes one off the 2 (m - 1) factors of the other slots.
+-- most g moves shorten. Before, between and after them each of the m words is chosen in one unbroken series of half-end moves at most, and each
+-- of these leaves one fewer of the factors of other slots, at most 2 (m - 1), that begin with the inverse of its second half.
 use Prim.Native.Nat.{ℕ, suc, ◌+◌, ◌-◌, ◌*◌, ◌≤◌}
 use mathlib.Core.Path.{◌≡◌}
 use Rattle.std.specs.Prelude.{None}
@@ -17,11 +17,11 @@ use Rattle.systems.specs.Bound.{letters_of, most_moves}
 use Rattle.systems.proofs.Neither.{Within, moves-most, moves_ended}
 use Rattle.systems.proofs.Ending.{all_turns, moves_left, all_turns_few, ends_within}
 
--- g shortenings, and g + 1 stretches
+-- g shortenings, and g + 1 stretches before, between and after them
 stretches : (m l g t : ℕ) → t ≤ m * (2 * l) → g * (m * (2 * l) + 1) + t ≤ 2 * m * l * (g + 1) + g
 stretches m l g t h = omega arith
 
--- with more words and letters there may be more moves
+-- the bound grows with the words and the letters
 most_moves_le : (m n g k : ℕ) → m ≤ n → g ≤ k → most_moves m g ≤ most_moves n k
 most_moves_le m n g k words letters =
     let pairs : 2 * m * (m - 1) ≤ 2 * n * (n - 1) = mul-le-mul (omega arith) (omega arith) in

@@ -72,16 +72,16 @@ module _ {A : Type 0} (G : Alphabet A) where
   abbrev sooner : List (List A) → ℕ → ℕ → Bool
   sooner S k i = qualifies G S i && ltb (place S i) (place S k)
 
-  -- how many half-end moves slot k's word can still make before the next shortening: where a word before it qualifies, as many as the other
+  -- at most how many half-end moves slot k's word can still make before the next shortening: where a word before it qualifies, as many as the other
   -- slots have factors; where it is itself the chosen one, as many as there are such beginnings; elsewhere none, since its time is over
   abbrev turns : List (List A) → ℕ → ℕ
   turns S k = cond (any_below (sooner S k) (length S)) (2 * (length S - 1)) (cond (qualifies G S k) (beginnings S k) 0)
 
-  -- how many all of them can make
+  -- at most how many all of them can make
   abbrev pub all_turns : List (List A) → ℕ
   all_turns S = total (turns S) (length S)
 
-  -- how many moves the rules can still make: each letter may bring a shortening, and all turns anew after it
+  -- at most how many moves the rules can still make: each letter may bring a shortening, and all turns anew after it
   abbrev pub moves_left : List (List A) → ℕ
   moves_left S = letters_of S * (most_turns (length S) + 1) + all_turns S
 

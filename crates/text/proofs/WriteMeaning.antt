@@ -4,7 +4,7 @@ use mathlib.Core.Path.{◌∙◌, ◌≡◌, ap, refl, sym}
 use mathlib.Core.Logic.{◌↔◌}
 use mathlib.Core.List.{List}
 use native.Mathlib.Omega.{arith}
-use lib.Dec.{eqb, leb}
+use lib.Dec.{leb}
 use lib.ListN.{length, take}
 use borrow.Author.Tests.{leb-false, lt-leb}
 use Rattle.words.specs.Alphabet.{bytes}
@@ -15,9 +15,9 @@ use Rattle.words.proofs.Buffers.{written-take}
 use Rattle.words.proofs.FreeReduction.{freely_reduce-same}
 use Rattle.records.specs.Answers.{answer_of}
 use Rattle.records.specs.Records.{AllLetters, record_of, word_of}
-use Rattle.records.specs.Refusals.{as_six, must, record_rules, refusal, target_rules, Checked}
+use Rattle.records.specs.Refusals.{refusal, target_rules, Checked}
 use Rattle.records.specs.declared.answers.Verdict.TheVariants.{Done}
-use Rattle.records.proofs.ByNumber.{Never, fine_never, must-given, must_never, never_then, other_never, then_first, then_next}
+use Rattle.records.proofs.ByNumber.{must-given, must_never, never_above, target_numbered, then_first, then_next}
 use Rattle.records.proofs.Chains.{fine_first, fine_next, verdict_done}
 use Rattle.records.proofs.RoundTrip.{target_letters, word-short}
 use Rattle.slots.specs.Refusals.{word_room}
@@ -34,8 +34,6 @@ use Rattle.text.specs.ReadBack.{ReadBack}
 use Rattle.text.proofs.ReadMeaning.{buffer_done, fits_all, rules_done, through, verdict_refused}
 use Rattle.records.specs.declared.refusals.Reason.TheVariants.{TargetOrProductMalformed, WordsBufferShort}
 use Rattle.std.specs.Prelude.{Err, Ok}
-use Rattle.records.specs.declared.refusals.Reason.{Reason}
-use Rattle.records.specs.Reasons.{number_of}
 
 writing_verdict : (c : Checked) (n : ℕ) → (writing_of c n).verdict ≡ (answer_of c).verdict
 writing_verdict (Ok _) n = refl
@@ -44,17 +42,6 @@ writing_verdict (Err f) n = refl
 text_runs : (w : List ℕ) → text_of w ≡ runs_text (runs w)
 unfolding text_of
 text_runs w = refl
-
--- refusal 6 gives no other reason
-six_never : (n : Reason) → (6 ≡ number_of n → ⊥) → (c : Checked) → Never n (as_six c)
-six_never n h (Ok _) = fine_never n
-six_never n h (Err f) = other_never n TargetOrProductMalformed f.place h
-
-target_never : (r : List ℕ) → Never WordsBufferShort (target_rules r)
-unfolding target_rules
-target_never r =
-    never_then WordsBufferShort (must (eqb (length r) 64) TargetOrProductMalformed 0) (as_six (record_rules r 0)) (must_never (eqb (length r) 64) WordsBufferShort TargetOrProductMalformed 0 (λ e. absurd (omega arith)))
-    (six_never WordsBufferShort (λ e. absurd (omega arith)) (record_rules r 0))
 
 module _ (word text : List ℕ) where
   abbrev tests : Checked
@@ -78,7 +65,7 @@ module _ (word text : List ℕ) where
   write_10 : (tests ≡ refusal WordsBufferShort 0) ↔ ((target_rules word ≡ Ok tt) × (length text < 256))
   unfolding write_rules word_room
   write_10 =
-      let (to, from) = then_next WordsBufferShort (target_rules word) (word_room 256 (length text)) 0 (target_never word) in
+      let (to, from) = then_next WordsBufferShort (target_rules word) (word_room 256 (length text)) 0 (never_above WordsBufferShort (target_rules word) 6 (target_numbered word) (omega arith)) in
       let (is-short, of-short) = must-given (leb 256 (length text)) WordsBufferShort 0 0 in (
         λ e. ((to e).0, leb-false 256 (length text) (is-short (to e).1).0),
         λ x. from (x.0, of-short (lt-leb 256 (length text) x.1, refl)),
