@@ -7,6 +7,7 @@
 pub mod actions;
 pub mod answers;
 pub mod asking;
+pub mod bound;
 pub mod decision;
 pub mod elements;
 pub mod factoring;

@@ -2,7 +2,8 @@
 //! The search is the plain reading of the rules: it forms every product and every half anew for
 //! every move and remembers nothing.
 
-use crate::answers::Answer;
+use crate::answers::{Answer, REFUSED};
+use crate::bound::most_moves_of;
 use crate::logs::{LogRecord, Rule, LOG_RECORD};
 use crate::moves::{Form, Move};
 use crate::program::MOST_MOVES;
@@ -154,6 +155,10 @@ pub fn reduction(system: &[u8]) -> Reduction {
     assert_ne!(
         answer.number, LOG_BUFFER_SHORT,
         "there is room for all moves"
+    );
+    assert!(
+        answer.verdict == REFUSED || answer.moves <= most_moves_of(system) as u64,
+        "there are no more moves than the bound"
     );
     log.truncate(LOG_RECORD * answer.moves as usize);
     Reduction { answer, words, log }
