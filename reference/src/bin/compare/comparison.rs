@@ -5,6 +5,7 @@ use crate::by_length::Form;
 use crate::entries::Entry;
 use crate::inputs::{for_each_length, rooms, EVERY_LENGTH, LONG_LENGTHS};
 use crate::lent::{Contents, LentAnswer, Pair};
+use crate::move_counts::{MoveCounts, LOG};
 use crate::numbers::for_each_length_of_numbers;
 use std::array::from_fn;
 use std::collections::{BTreeMap, BTreeSet};
@@ -26,7 +27,6 @@ pub struct Seen {
     kinds: BTreeMap<String, u64>,
     /// How many systems were reduced.
     pub reduced: u64,
-    pub most_moves: u64,
 }
 
 impl Seen {
@@ -68,6 +68,8 @@ pub struct Comparison<const INPUTS: usize, const BUFFERS: usize> {
     pub refusal_check: Option<Check<INPUTS, BUFFERS>>,
     /// Tells kinds of calls apart, which are counted then.
     pub kind_of_call: Option<KindOfCall<INPUTS>>,
+    /// The numbers of moves, of an entry that makes some.
+    pub moves: Option<MoveCounts>,
     pub seen: Seen,
 }
 
@@ -91,6 +93,7 @@ impl<const INPUTS: usize, const BUFFERS: usize> Comparison<INPUTS, BUFFERS> {
             another_check: None,
             refusal_check: None,
             kind_of_call: None,
+            moves: None,
             seen: Seen::default(),
         }
     }
@@ -300,13 +303,18 @@ impl<const INPUTS: usize, const BUFFERS: usize> Comparison<INPUTS, BUFFERS> {
                 self.end_with(fault);
             }
         }
+        if let Some(moves) = &mut self.moves {
+            let log = self.buffers[LOG].rust.part().len();
+            if let Err(fault) = moves.hold(inputs[0], log, self.proved.numbers) {
+                self.end_with(fault);
+            }
+        }
         if let Some(kind_of_call) = self.kind_of_call {
             let kind = kind_of_call(inputs, self.rust);
             *self.seen.kinds.entry(kind).or_default() += 1;
         }
         self.seen.calls += 1;
         self.seen.reduced += self.rust.reduced;
-        self.seen.most_moves = self.seen.most_moves.max(self.rust.moves);
         if self.rust.verdict == REFUSED {
             self.seen.refusals[self.rust.number as usize] += 1;
         } else {
@@ -346,6 +354,13 @@ impl<const INPUTS: usize, const BUFFERS: usize> Comparison<INPUTS, BUFFERS> {
             let count = self.seen.kinds.get(kind).copied().unwrap_or(0);
             assert!(count >= *fewest, "{name} {kind}: only {count} calls");
             println!("{name} {kind}: {count} calls agree");
+        }
+    }
+
+    /// Says what was seen of the numbers of moves.
+    pub fn end_moves(&self) {
+        if let Some(moves) = &self.moves {
+            moves.end(self.name);
         }
     }
 

@@ -12,6 +12,7 @@ mod in_turn;
 mod inputs;
 mod lent;
 mod member;
+mod move_counts;
 mod multiply;
 mod numbers;
 mod read_text;

@@ -7,6 +7,7 @@ use crate::comparison::{Comparison, Seen};
 use crate::entries::MEMBER;
 use crate::in_turn::{check_in_turn, check_refusal, REFUSALS_OF_ASK, REFUSALS_OF_REDUCE};
 use crate::inputs::*;
+use crate::move_counts::MoveCounts;
 use subgroups_reference::answers;
 use subgroups_reference::decision::check_member;
 use subgroups_reference::logs::LOG_RECORD;
@@ -30,6 +31,7 @@ pub fn compare() -> u64 {
         check_in_turn(inputs, buffers, answer)
     });
     calls.refusal_check = Some(check_refusal);
+    calls.moves = Some(MoveCounts::default());
     sheets(calls);
     system_lengths(calls);
     for_each_malformed_system(|system| call_letters(calls, system, b"abA", 250 * LOG_RECORD));
@@ -55,6 +57,7 @@ pub fn compare() -> u64 {
     assert!(short_logs > 10_000, "only {short_logs} logs are too short");
     let count = calls.end(&[answers::MEMBER, answers::NOT_A_MEMBER], &refusals);
     say_what_agreed_in_turn(&calls.seen);
+    calls.end_moves();
     count
 }
 
