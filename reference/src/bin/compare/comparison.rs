@@ -357,6 +357,12 @@ impl<const INPUTS: usize, const BUFFERS: usize> Comparison<INPUTS, BUFFERS> {
         }
     }
 
+    /// The systems with the most moves that were seen.
+    pub fn systems_with_most_moves(&self) -> Vec<Vec<u8>> {
+        let moves = self.moves.as_ref();
+        moves.map_or(Vec::new(), MoveCounts::systems_with_most_moves)
+    }
+
     /// Says what was seen of the numbers of moves.
     pub fn end_moves(&self) {
         if let Some(moves) = &self.moves {

@@ -11,6 +11,7 @@ mod from_numbers;
 mod in_turn;
 mod inputs;
 mod lent;
+mod long_logs;
 mod member;
 mod move_counts;
 mod multiply;

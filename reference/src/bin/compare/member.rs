@@ -7,6 +7,7 @@ use crate::comparison::{Comparison, Seen};
 use crate::entries::MEMBER;
 use crate::in_turn::{check_in_turn, check_refusal, REFUSALS_OF_ASK, REFUSALS_OF_REDUCE};
 use crate::inputs::*;
+use crate::long_logs::for_each_long_log;
 use crate::move_counts::MoveCounts;
 use subgroups_reference::answers;
 use subgroups_reference::decision::check_member;
@@ -47,6 +48,7 @@ pub fn compare() -> u64 {
     small_systems(calls);
     powers(calls);
     random_targets(calls);
+    long_logs(calls);
     let refusals = [
         TARGET_OR_PRODUCT_MALFORMED,
         WORDS_BUFFER_SHORT,
@@ -233,4 +235,18 @@ fn random_targets(calls: &mut Member) {
             }
         }
     }
+}
+
+/// Logs with room for as many moves as the bound, for the systems with the most moves so far among
+/// others; the target is the system's last word, or one that few systems generate.
+fn long_logs(calls: &mut Member) {
+    let mut random = Random::new(805);
+    for_each_long_log(806, calls.systems_with_most_moves(), |system, log| {
+        let target = match system.last_chunk() {
+            Some(last) if random.below(2) == 0 => *last,
+            _ => record("abA"),
+        };
+        calls.call([system, &target], [system.len(), log, RECORD]);
+        calls.answer()
+    });
 }

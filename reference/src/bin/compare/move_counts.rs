@@ -3,12 +3,15 @@
 
 use crate::entries::Numbers;
 use subgroups_reference::answers::REFUSED;
-use subgroups_reference::bound::{most_moves_of, records_and_letters};
+use subgroups_reference::bound::{longest_log, most_moves_of, records_and_letters};
 use subgroups_reference::logs::LOG_RECORD;
 use subgroups_reference::refusals::LOG_BUFFER_SHORT;
 
 /// The place of the log among the buffers of an entry that makes moves.
 pub const LOG: usize = 1;
+
+/// How many of the runs with the most moves are kept.
+const KEPT: usize = 8;
 
 /// A system that was reduced, the number of its moves, and the bound on them.
 struct Run {
@@ -20,10 +23,14 @@ struct Run {
 /// What was seen of the numbers of moves.
 #[derive(Default)]
 pub struct MoveCounts {
-    /// The run with the most moves.
-    longest: Option<Run>,
+    /// The runs of different systems with the most moves, the most first.
+    longest: Vec<Run>,
     /// The run with the largest share of its bound.
     nearest: Option<Run>,
+    /// How many logs of runs with moves had room for just as many as the bound of the system.
+    logs_by_the_bound: u64,
+    /// How many of them had room for just as many as the bound of the largest system.
+    longest_logs: u64,
 }
 
 impl Run {
@@ -65,33 +72,51 @@ impl MoveCounts {
             return Err("there are more moves than the bound");
         }
         if moves > 0 {
+            self.logs_by_the_bound += u64::from(log == LOG_RECORD * bound);
+            self.longest_logs += u64::from(log == longest_log());
             self.keep(moves, bound as u64, system);
         }
         Ok(())
     }
 
-    /// Keeps a run with moves if it is the longest, or comes nearer to its bound than all before.
+    /// Keeps a run with moves if it is among the longest, or comes nearer to its bound than all before.
     fn keep(&mut self, moves: u64, bound: u64, system: &[u8]) {
         let is_nearer = |nearest: &Run| moves * nearest.bound > nearest.moves * bound;
         if self.nearest.as_ref().is_none_or(is_nearer) {
             self.nearest = Some(Run::new(moves, bound, system));
         }
-        let is_longer = |longest: &Run| moves > longest.moves;
-        if self.longest.as_ref().is_none_or(is_longer) {
-            self.longest = Some(Run::new(moves, bound, system));
+        let place = self.longest.partition_point(|run| run.moves >= moves);
+        if place < KEPT && self.longest.iter().all(|run| run.system != system) {
+            self.longest.insert(place, Run::new(moves, bound, system));
+            self.longest.truncate(KEPT);
         }
     }
 
-    /// Says how near the moves of an entry came to their bound, after a look that there were many.
+    /// The systems with the most moves.
+    pub fn systems_with_most_moves(&self) -> Vec<Vec<u8>> {
+        let systems = self.longest.iter().map(|run| run.system.clone());
+        systems.collect()
+    }
+
+    /// Says how near the moves of an entry came to their bound, and how many logs were long enough by it,
+    /// after a look that there were many moves and many such logs.
     pub fn end(&self, name: &str) {
         let nearest = self.nearest.as_ref().expect("moves were made");
-        let longest = self.longest.as_ref().expect("moves were made");
-        assert!(longest.moves > 700, "{name}: no system has many moves");
+        let longest = self.longest.first().expect("moves were made");
+        assert!(longest.moves > 1_680, "{name}: no system has many moves");
         println!(
             "{name}: at most {}% of the bound on moves, {}; the most moves {}",
             100 * nearest.moves / nearest.bound,
             nearest.told(),
             longest.told()
         );
+        let logs = self.logs_by_the_bound;
+        assert!(logs > 3_000, "{name}: only {logs} logs by the bound");
+        let longest_logs = self.longest_logs;
+        assert!(
+            longest_logs > 30,
+            "{name}: only {longest_logs} longest logs"
+        );
+        println!("{name}: {logs} logs as long as the bound and {longest_logs} of the longest length are long enough");
     }
 }

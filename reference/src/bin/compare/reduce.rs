@@ -4,6 +4,7 @@
 use crate::comparison::Comparison;
 use crate::entries::REDUCE;
 use crate::inputs::*;
+use crate::long_logs::for_each_long_log;
 use crate::move_counts::MoveCounts;
 use subgroups_reference::answers::DONE;
 use subgroups_reference::logs::LOG_RECORD;
@@ -48,6 +49,7 @@ pub fn compare() -> u64 {
     powers(calls);
     log_lengths(calls);
     random_systems(calls);
+    long_logs(calls);
     let short_logs = calls.seen.refused_with(&[LOG_BUFFER_SHORT]);
     assert!(short_logs > 40_000, "only {short_logs} logs are too short");
     let count = calls.end(&[DONE], &[WORDS_BUFFER_SHORT, LOG_BUFFER_SHORT]);
@@ -120,4 +122,12 @@ fn random_systems(calls: &mut Reduce) {
             }
         }
     }
+}
+
+/// Logs with room for as many moves as the bound, for the systems with the most moves so far among others.
+fn long_logs(calls: &mut Reduce) {
+    for_each_long_log(704, calls.systems_with_most_moves(), |system, log| {
+        calls.call([system], [system.len(), log]);
+        calls.answer()
+    });
 }
