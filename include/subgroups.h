@@ -42,11 +42,11 @@
  *            were, but for those of table after an answer. A refusal changes nothing but the answer, and the length
  *            that write_text gives, except that under SUBGROUPS_LOG_BUFFER_SHORT the log holds, as whole log records, the
  *            first moves that fit.
- *            How many moves a system takes is not known beforehand: 16 random words take some dozens, and more than 1,000 have
- *            been seen. With m the number of records and g the letters of the given words after free reduction, the moves are
- *            never more than 2 m (m - 1) (g + 1) + g, which for the largest system is SUBGROUPS_MOST_MOVES. A log with room for
- *            that many never gets SUBGROUPS_LOG_BUFFER_SHORT, and one of SUBGROUPS_LONGEST_LOG bytes does not on any system. A
- *            caller that lends less, and gets that refusal, lends a longer log and calls again.
+ *            How many moves a system takes is not known beforehand: 16 random words take some dozens, and 1,681 are the most
+ *            that were found. With m the number of records and g the letters of the given words after free reduction, they are
+ *            never more than 2 m (m - 1) (g + 1) + g, which for the largest system is SUBGROUPS_MOST_MOVES. With a log that has
+ *            room for so many, SUBGROUPS_LOG_BUFFER_SHORT does not occur; a log of SUBGROUPS_LONGEST_LOG bytes has it for
+ *            every system. A caller that lends less, and gets that refusal, lends a longer log and calls again.
  *            What is written (words, log, product, word, text, length, answer, the numbers of to_numbers, tidied, table) must
  *            not overlap any other buffer; buffers that are only read may. Where a buffer's length is 0 its pointer may be
  *            anything, NULL too; answer and length must not be NULL.
