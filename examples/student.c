@@ -6,7 +6,7 @@
 
 enum { WORDS = 3, TARGETS = 30 };
 
-/* So many words have at most so many letters, and with these the moves are never more than MOVES: the log is never too short. */
+/* The most letters that so many words can have, and the bound on their moves: a log of MOVES log records is never too short. */
 enum { LETTERS = WORDS * SUBGROUPS_LETTERS, MOVES = 2 * WORDS * (WORDS - 1) * (LETTERS + 1) + LETTERS };
 
 /* Prints what a target is over the reduced words, and answers whether the product multiplies out to it. */

@@ -44,9 +44,9 @@
  *            first moves that fit.
  *            How many moves a system takes is not known beforehand: 16 random words take some dozens, and 1,681 are the most
  *            that were found. With m the number of records and g the letters of the given words after free reduction, they are
- *            never more than 2 m (m - 1) (g + 1) + g, which for the largest system is SUBGROUPS_MOST_MOVES. With a log that has
- *            room for so many, SUBGROUPS_LOG_BUFFER_SHORT does not occur; a log of SUBGROUPS_LONGEST_LOG bytes has it for
- *            every system. A caller that lends less, and gets that refusal, lends a longer log and calls again.
+ *            never more than 2 m (m - 1) (g + 1) + g, which for the largest system is SUBGROUPS_MOST_MOVES. A log with room for
+ *            that many moves is never refused with SUBGROUPS_LOG_BUFFER_SHORT, and one of SUBGROUPS_LONGEST_LOG bytes is not
+ *            for any system. A caller that lends less, and gets that refusal, lends a longer log and calls again.
  *            What is written (words, log, product, word, text, length, answer, the numbers of to_numbers, tidied, table) must
  *            not overlap any other buffer; buffers that are only read may. Where a buffer's length is 0 its pointer may be
  *            anything, NULL too; answer and length must not be NULL.
@@ -128,7 +128,7 @@ enum {
     SUBGROUPS_SLOTS = 16,            /* the most records of a system */
     SUBGROUPS_MOVE = 8,              /* the bytes of a log record, which is one move */
     SUBGROUPS_MOST_MOVES = 485328,   /* no system takes more moves */
-    SUBGROUPS_LONGEST_LOG = 3882624, /* the bytes of so many log records: such a log is never too short */
+    SUBGROUPS_LONGEST_LOG = 3882624, /* the bytes of so many log records: no system needs a longer log */
     SUBGROUPS_TEXT = 256,            /* the most bytes of a text to read, and the room that write_text asks for */
     SUBGROUPS_NUMBERS_RECORD = 128,  /* the bytes of a record of numbers */
     SUBGROUPS_EDGES = 1008,          /* the edges that trace asks for */

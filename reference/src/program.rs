@@ -8,7 +8,7 @@ use crate::records::{LONGEST_SYSTEM, RECORD};
 use crate::refusals::{SYSTEM_TOO_LONG, SYSTEM_UNEVEN, TARGET_OR_PRODUCT_MALFORMED};
 
 /// The most moves that the program's log buffer holds.
-pub const MOST_MOVES: usize = 8_192;
+pub const MOVES_IN_LOG: usize = 8_192;
 /// The most bytes that the program takes, those of the longest system and a target.
 pub const LONGEST_INPUT: usize = LONGEST_SYSTEM + RECORD;
 
@@ -39,7 +39,7 @@ pub fn program(input: &[u8]) -> Vec<u8> {
     }
     let (system, target) = input.split_at(input.len() - RECORD);
     let mut words = vec![0; system.len()];
-    let mut log = vec![0; LOG_RECORD * MOST_MOVES];
+    let mut log = vec![0; LOG_RECORD * MOVES_IN_LOG];
     let mut product = [0; RECORD];
     let answer = member(system, target, &mut words, &mut log, &mut product);
     if answer.verdict == REFUSED {
@@ -99,7 +99,7 @@ a..............................................................
     /// The log buffer has 65,536 bytes.
     #[test]
     fn length_of_the_log_buffer() {
-        assert_eq!(LOG_RECORD * MOST_MOVES, 65_536);
+        assert_eq!(LOG_RECORD * MOVES_IN_LOG, 65_536);
     }
 
     /// A target that is not a member gets no product, and a target alone has no slots before it.

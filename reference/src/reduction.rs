@@ -6,7 +6,7 @@ use crate::answers::{Answer, REFUSED};
 use crate::bound::most_moves_of;
 use crate::logs::{LogRecord, Rule, LOG_RECORD};
 use crate::moves::{Form, Move};
-use crate::program::MOST_MOVES;
+use crate::program::MOVES_IN_LOG;
 use crate::records::{check_room_for_words, read_system, System};
 use crate::refusals::{Refusal, LOG_BUFFER_SHORT};
 use crate::words::Word;
@@ -150,7 +150,7 @@ pub struct Reduction {
 /// What reduce makes of a system with room for everything; the words are blank if it is refused.
 pub fn reduction(system: &[u8]) -> Reduction {
     let mut words = vec![0; system.len()];
-    let mut log = vec![0; LOG_RECORD * MOST_MOVES];
+    let mut log = vec![0; LOG_RECORD * MOVES_IN_LOG];
     let answer = reduce(system, &mut words, &mut log);
     assert_ne!(
         answer.number, LOG_BUFFER_SHORT,

@@ -142,7 +142,7 @@ tests_numbered s t room product_room =
     (then_numbered 12 (word_room (slots s * 64) room) fits (omega (arith, room_numbered (slots s * 64) room))
     (must_numbered 12 (leb 64 product_room) ProductBufferShort 0 (omega arith))))
 
--- a log of as many records as the rules make moves at most is room enough
+-- a log of as many log records as the moves can be at most is room enough
 most_moves_room : (s t words log product : List ℕ) → RoomForMostMoves s t words log product → EnoughRoom s t words log product
 most_moves_room s t words log product room =
     record {

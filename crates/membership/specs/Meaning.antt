@@ -27,7 +27,7 @@ pub record EnoughRoom (given target words log product : List ℕ) : Type 0 where
   pub no_more_moves : EnoughMoves given enough_moves
   pub log_fits : enough_moves * move_size ≤ length log
 
--- the same with a log of as many records as the moves can be at most: no premise on the moves that the rules make
+-- the same with a log of as many log records as the moves can be at most: no premise on the moves that the rules make
 pub record RoomForMostMoves (given target words log product : List ℕ) : Type 0 where
   pub system : system_rules given ≡ Ok tt
   pub target_fits : target_rules target ≡ Ok tt
@@ -38,12 +38,12 @@ pub record RoomForMostMoves (given target words log product : List ℕ) : Type 0
 -- what member's answer means: W, L and P are what it wrote
 pub record MemberMeans (given target words log product : List ℕ) (answer : Reduction) (words' log' product' : List ℕ) : Type 0 where
   pub third_demand : ThirdDemand (EnoughRoom given target words log product) given target (take (slots given * 64) words') (take 64 product') answer.verdict
-  -- "A log of as many records as the moves can be at most is enough"
+  -- "A log of as many log records as the moves can be at most is enough"
   pub with_most_moves :
       ThirdDemand (RoomForMostMoves given target words log product) given target (take (slots given * 64) words') (take 64 product') answer.verdict
   -- W, L and the numbers are those of reduce, with all that they mean
   pub reduces : Answered answer.verdict → Reduces given (take (slots given * 64) words') (take (answer.moves * move_size) log') answer
-  -- the moves that the rules make are never more than the bound
+  -- the moves that the rules make are never more than the bound, and with a log for so many 13 does not occur
   pub bounded : Bounded given log answer
   -- where there is room for all but the moves, the call is refused with 13
   pub log_short : system_rules given ≡ Ok tt → target_rules target ≡ Ok tt → slots given * 64 ≤ length words → 64 ≤ length product

@@ -1,4 +1,4 @@
--- Which test of a chain gives a refusal, told by the reason's number, and which numbers the tests of a record and of a target can give.
+-- Which test of a chain gives a refusal, told by the reason's number, and above which number the tests of a record and of a target never refuse.
 use Prim.Native.Nat.{ℕ, zero, suc, ◌+◌, ◌≤◌, ◌<◌}
 use mathlib.Core.Path.{◌≡◌, ap, refl, sym}
 use mathlib.Core.Logic.{◌↔◌}
@@ -97,7 +97,7 @@ order_numbered (b ∷ r) at =
     cond_both (is_stop b) (each_byte not_letter LetterAfterStop r (at + 1)) (order_rule r (at + 1)) (NumberedTo 5)
     (λ e. bytes_numbered 5 not_letter LetterAfterStop r (at + 1) (omega arith)) (λ e. order_numbered r (at + 1))
 
--- a record's tests give 3 to 5
+-- a record's tests refuse with no number above 5
 pub record_numbered : (r : List ℕ) (at : ℕ) → NumberedTo 5 (record_rules r at)
 unfolding record_rules letters_rule
 record_numbered r at =
@@ -105,7 +105,7 @@ record_numbered r at =
     (then_numbered 5 (byte_rule (take 63 r) at) (order_rule (take 63 r) at)
     (bytes_numbered 5 is_letter_or_stop NeitherLetterNorStop (take 63 r) at (omega arith)) (order_numbered (take 63 r) at))
 
--- a target's give 6
+-- a target's with none above 6
 six_numbered : (c : Checked) → NumberedTo 6 (as_six c)
 six_numbered (Ok _) = omega arith
 six_numbered (Err f) = omega arith

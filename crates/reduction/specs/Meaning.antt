@@ -87,7 +87,7 @@ pub record LogShort (moves : List Logged) (log log' : List ℕ) (answer : Reduct
   -- "Under 13 the log holds, as whole records, the first moves that fit"
   pub first_that_fit : refusal_number answer.verdict ≡ 13 → take (room_for log * move_size) log' ≡ log_of (take (room_for log) moves)
 
--- "How long a log can get": the bound on the moves of a given system, and that 13 does not occur with a log of so many records
+-- "How long a log can get": the bound on the moves of a given system, and that 13 does not occur with a log for so many
 pub record Bounded (given log : List ℕ) (answer : Reduction) : Type 0 where
   -- "the moves are never more than 2 times m times (m - 1) times (g + 1), plus g", whatever room there is
   pub never_more : (room : ℕ) → length (moves_within bytes room (freely_reduced_words given)) ≤ most_moves_on given
@@ -100,9 +100,9 @@ pub record Bounded (given log : List ℕ) (answer : Reduction) : Type 0 where
   pub never_13 : most_moves_on given * move_size ≤ length log → refusal_number answer.verdict ≡ 13 → ⊥
   pub never_13_on_any : most_moves_on_any * move_size ≤ length log → refusal_number answer.verdict ≡ 13 → ⊥
 
--- the moves that the rules make are never more than the bound; wherever a well-formed system's words and moves have room, reduce is done;
--- where only the moves have none, it is refused with 13; and whenever it is done, W is what it wrote into the words buffer, and L what it
--- wrote into the log
+-- the moves that the rules make are never more than the bound, and with a log for so many 13 does not occur; wherever a well-formed system's
+-- words and moves have room, reduce is done; where only the moves have none, it is refused with 13; and whenever it is done, W is what it
+-- wrote into the words buffer, and L what it wrote into the log
 pub record ReduceMeans (given words log : List ℕ) (answer : Reduction) (words' log' : List ℕ) : Type 0 where
   pub bounded : Bounded given log answer
   pub done : system_rules given ≡ Ok tt → slots given * 64 ≤ length words

@@ -121,7 +121,7 @@ not_empty_told [] false told = absurd (true≢false (sym (told.1 refl)))
 not_empty_told (x ∷ w) true told = absurd (cons≢nil (told.0 refl))
 not_empty_told (x ∷ w) false told = refl
 
--- a system's tests give 1 to 5
+-- a system's tests refuse with no number above 5
 pub system_numbered : (s : List ℕ) → NumberedTo 5 (system_rules s)
 unfolding system_rules
 system_numbered s =
@@ -130,7 +130,7 @@ system_numbered s =
     (then_numbered 5 (must (eqb (length s % 64) 0) SystemUneven 0) (each_below (slot_rules s) (slots s))
     (must_numbered 5 (eqb (length s % 64) 0) SystemUneven 0 (omega arith)) (each_numbered 5 (slot_rules s) (slots s) (λ k. record_numbered _ _)))
 
--- and room for its words 10
+-- room for its words with none above 10
 pub room_numbered : (output room : ℕ) → NumberedTo 10 (word_room output room)
 unfolding word_room
 room_numbered output room = must_numbered 10 (leb output room) WordsBufferShort 0 (omega arith)

@@ -6,7 +6,7 @@ use crate::entries::{Entry, MEMBER};
 use crate::timing::{line, time};
 use subgroups_reference::logs::LOG_RECORD;
 use subgroups_reference::measured::Measured;
-use subgroups_reference::program::MOST_MOVES;
+use subgroups_reference::program::MOVES_IN_LOG;
 use subgroups_reference::quick_search;
 use subgroups_reference::records::{record, MOST_RECORDS, RECORD};
 use subgroups_reference::words::{Word, LONGEST};
@@ -17,7 +17,7 @@ const SYSTEMS: usize = 100;
 pub const TARGETS: usize = 30;
 
 /// The lengths of the buffers that are lent: the log is that of the program.
-pub const LENGTHS: [usize; 3] = [RECORD * MOST_RECORDS, LOG_RECORD * MOST_MOVES, RECORD];
+pub const LENGTHS: [usize; 3] = [RECORD * MOST_RECORDS, LOG_RECORD * MOVES_IN_LOG, RECORD];
 
 /// Member, by the quick search on the Rust side.
 const QUICK_MEMBER: Entry<2, 3> = Entry {

@@ -6,7 +6,7 @@ use crate::entries::{Entry, REDUCE};
 use crate::timing::{line, time, Times};
 use subgroups_reference::logs::LOG_RECORD;
 use subgroups_reference::measured::Measured;
-use subgroups_reference::program::MOST_MOVES;
+use subgroups_reference::program::MOVES_IN_LOG;
 use subgroups_reference::quick_search;
 use subgroups_reference::random::Random;
 use subgroups_reference::records::{MOST_RECORDS, RECORD};
@@ -62,7 +62,7 @@ fn compare(name: &str, systems: Vec<Vec<u8>>, total: &mut Times) {
     let inputs: Vec<[Vec<u8>; 1]> = systems.into_iter().map(|system| [system]).collect();
     let moves = inputs.iter().map(|[system]| reduction(system).answer.moves);
     let moves = moves.sum::<u64>() as f64 / inputs.len() as f64;
-    let lengths = [RECORD * MOST_RECORDS, LOG_RECORD * MOST_MOVES];
+    let lengths = [RECORD * MOST_RECORDS, LOG_RECORD * MOVES_IN_LOG];
     let times = time(QUICK_REDUCE, &inputs, lengths);
     line(&format!("reduce, {name} ({moves:.0} moves)"), times);
     let of_all = times.of_calls(inputs.len());

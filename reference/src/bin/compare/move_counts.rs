@@ -29,7 +29,7 @@ pub struct MoveCounts {
     nearest: Option<Run>,
     /// How many logs of runs with moves had room for just as many as the bound of the system.
     logs_by_the_bound: u64,
-    /// How many of them had room for just as many as the bound of the largest system.
+    /// How many logs of runs with moves had room for just as many as the bound of the largest system.
     longest_logs: u64,
 }
 
@@ -103,7 +103,11 @@ impl MoveCounts {
     pub fn end(&self, name: &str) {
         let nearest = self.nearest.as_ref().expect("moves were made");
         let longest = self.longest.first().expect("moves were made");
-        assert!(longest.moves > 1_680, "{name}: no system has many moves");
+        assert_eq!(
+            [longest.moves, nearest.moves, nearest.bound],
+            [1_681, 63, 324],
+            "{name}: the header and docs/DECISIONS.md say other numbers"
+        );
         println!(
             "{name}: at most {}% of the bound on moves, {}; the most moves {}",
             100 * nearest.moves / nearest.bound,

@@ -10,9 +10,10 @@ use crate::inputs::*;
 use crate::lent::Contents;
 use subgroups_reference::actions::Action;
 use subgroups_reference::answers::{self, Answer, NOT_A_MEMBER, REFUSED};
+use subgroups_reference::bound::most_moves_of;
 use subgroups_reference::graph_sheets::GRAPH_SHEETS;
 use subgroups_reference::logs::LOG_RECORD;
-use subgroups_reference::program::MOST_MOVES;
+use subgroups_reference::program::MOVES_IN_LOG;
 use subgroups_reference::random::{Kind, Random};
 use subgroups_reference::records::{
     freely_reduced, record, system, LONGEST_SYSTEM, MOST_RECORDS, RECORD,
@@ -88,13 +89,18 @@ fn contents() -> Contents {
 /// The verdicts of member of the proved library and of the Rust version, with enough room.
 fn verdicts_of_members(inputs: [&[u8]; 2]) -> [u64; 2] {
     let mut words = [0; LONGEST_SYSTEM];
-    let mut log = vec![0; LOG_RECORD * MOST_MOVES];
+    let mut log = vec![0; LOG_RECORD * MOVES_IN_LOG];
     let mut product = [0; RECORD];
     let mut numbers = [0; 7];
     let buffers = [&mut words[..], &mut log, &mut product];
     (MEMBER.proved)(inputs, buffers, &mut numbers);
     let answer = (MEMBER.rust)(inputs, [&mut words, &mut log, &mut product]);
-    [numbers[0], answer.verdict]
+    let [verdict, _, _, moves, ..] = numbers;
+    assert!(
+        verdict == REFUSED || moves <= most_moves_of(inputs[0]) as u64,
+        "there are more moves than the bound"
+    );
+    [verdict, answer.verdict]
 }
 
 /// Checks a call that was not refused: the table was long enough, and member gives the same verdict.
