@@ -1,12 +1,13 @@
 -- Buffers that are read or written from a place on.
 use Prim.Native.Nat.{◌+◌, ◌-◌, ◌<◌, ◌≤◌, suc, zero, ℕ}
 use mathlib.Core.List.{List, [], ◌++◌, ◌∷◌, append_assoc, append-nil}
-use mathlib.Core.Path.{◌≡◌, ap}
+use mathlib.Core.Path.{◌≡◌, ap, refl}
 use native.Mathlib.Nat.{suc-add, zero-add}
 use native.Mathlib.Numerals.{add-one}
 use native.Mathlib.Omega.{arith}
-use lib.ListN.{drop, drop_of_length-le, length, length-append, set, take}
-use lib.Seq.{drop-append_seam, drop-drop, drop-nil, set_split, take_all, take-append_seam, take_at}
+use lib.ListN.{drop, drop_of_length-le, length, length-append, length-drop, set, take}
+use lib.Seq.{drop-append_seam, drop-drop, drop-length, drop-nil, set_split, take_all, take-append_seam, take_at}
+use borrow.Rule.Slice.PartMut.{put_mid}
 use Rattle.words.specs.Buffers.{written, written_at}
 
 -- the first n letters, as a part that is handed on
@@ -18,6 +19,14 @@ front_part s n =
 -- what was written at the beginning of a lent buffer
 pub written-take : (new buffer : List ℕ) (n : ℕ) → length new ≡ n → take n (written new buffer) ≡ new
 written-take new buffer n e = take_at new (drop (length new) buffer) n e
+
+-- what was written at the beginning of the rest of a buffer
+pub written-rest : (bytes buffer y : List ℕ) (at : ℕ) → y ≡ written bytes (take (length buffer - at) (drop at buffer))
+    → put_mid at (length buffer - at) buffer y ≡ written_at at bytes buffer
+written-rest bytes buffer y at e =
+    let none : drop (length buffer - at) (drop at buffer) ≡ [] = rw (← length-drop at buffer) (drop-length (drop at buffer)) in
+    let rest : take (length buffer - at) (drop at buffer) ≡ drop at buffer = take_all (length buffer - at) (drop at buffer) (omega (arith, length-drop at buffer)) in
+    rw (none, append-nil, e, rest) refl
 
 -- bytes written at a place: one, and some after others
 pub byte_written : (buffer : List ℕ) (at b : ℕ) → at < length buffer → set buffer at b ≡ written_at at (b ∷ []) buffer

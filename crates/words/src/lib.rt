@@ -3,6 +3,8 @@
 
 pub mod bytes;
 pub mod cancel;
+pub mod free_reduction;
 pub mod letters;
+pub mod product;
 pub mod word;
 pub mod writer;

@@ -1,11 +1,12 @@
 // A freely reduced word in a buffer of its own. A contract sees its letters alone.
-ghost use Rattle.std.specs.Prelude.{◌+◌, ◌-◌, ◌<◌, ◌≤◌, [], ◌++◌, ◌∷◌, ◌≡◌, ◌↔◌, IsTrue, drop, length, take};
+ghost use Rattle.std.specs.Prelude.{◌+◌, ◌<◌, ◌≤◌, [], ◌++◌, ◌∷◌, ◌≡◌, ◌↔◌, IsTrue, length};
 ghost use Rattle.words.specs.Alphabet.{bytes};
 ghost use Rattle.words.specs.Pairs.{letter_pair};
 ghost use Rattle.words.specs.Words.{freely_reduce, inverse, signed};
 
-use crate::cancel::common_prefix_signed;
-use crate::letters::{copy, flip};
+use crate::free_reduction::push_last;
+use crate::letters::copy;
+use crate::product::{append_inverse, push_signed};
 use std::marker::Model;
 
 // A freely reduced word of at most ROOM letters.
@@ -76,7 +77,7 @@ impl<const ROOM: usize> Word<ROOM> {
         ensures product { self.new ≡ freely_reduce bytes (self.old ++ letter ∷ []) }
         ensures within { length self.new ≤ length self.old + 1 }
     {
-        self.size = push_letter(&mut self.letters, self.size, letter);
+        self.size = push_last(&mut self.letters, self.size, letter);
     }
 
     // Multiplies the word by another or its inverse from the right.
@@ -85,11 +86,7 @@ impl<const ROOM: usize> Word<ROOM> {
         ensures product { self.new ≡ freely_reduce bytes (self.old ++ signed bytes inverted word.now) }
         ensures within { length self.new ≤ length self.old + length word.now }
     {
-        let letters = word.letters();
-        let c = common_prefix_signed(true, self.letters(), inverted, letters);
-        let kept = self.size - c;
-        append_rest(&mut self.letters, kept, inverted, letters, c);
-        self.size = kept + letters.len() - c;
+        self.size = push_signed(&mut self.letters, self.size, inverted, word.letters());
     }
 
     // Puts what some letters freely reduce to in place of this word. The length is counted in a variable of its own: kept in the word, it cost a
@@ -102,7 +99,7 @@ impl<const ROOM: usize> Word<ROOM> {
     {
         let mut size = 0;
         for letter in letters {
-            size = push_letter(&mut self.letters, size, *letter);
+            size = push_last(&mut self.letters, size, *letter);
         }
         self.size = size;
     }
@@ -127,41 +124,5 @@ impl<const ROOM: usize> Word<ROOM> {
     {
         append_inverse(&mut self.letters, 0, word.letters());
         self.size = word.len();
-    }
-}
-
-// Puts a letter after the first so many of a buffer, and cancels it where it meets its inverse; answers the new length.
-fn push_letter(letters: &mut [u8], size: usize, letter: u8) -> usize
-    requires room { size < length letters.old }
-    requires freely { freely_reduce bytes (take size letters.old) ≡ take size letters.old }
-    ensures longer { result ≤ size + 1 }
-    ensures product { take result letters.new ≡ freely_reduce bytes (take size letters.old ++ letter ∷ []) }
-{
-    if size > 0 && letters[size - 1] == flip(letter) {
-        return size - 1;
-    }
-    letters[size] = letter;
-    size + 1
-}
-
-// Puts the inverse of a word after the first n letters of a buffer.
-fn append_inverse(stack: &mut [u8], n: usize, word: &[u8])
-    requires { n + length word.now ≤ length stack.old }
-    ensures { take (n + length word.now) stack.new ≡ take n stack.old ++ inverse bytes word.now }
-{
-    for (i, letter) in word.iter().rev().enumerate() {
-        stack[n + i] = flip(*letter);
-    }
-}
-
-// Puts what is left of a word or its inverse, without its first c letters, after the first n letters of a buffer.
-fn append_rest(stack: &mut [u8], n: usize, inverted: bool, word: &[u8], c: usize)
-    requires { (c ≤ length word.now) × (n + length word.now ≤ length stack.old + c) }
-    ensures { take (n + length word.now - c) stack.new ≡ take n stack.old ++ drop c (signed bytes inverted word.now) }
-{
-    if inverted {
-        append_inverse(stack, n, &word[..word.len() - c]);
-    } else {
-        copy(&word[c..], &mut stack[n..]);
     }
 }

@@ -5,8 +5,8 @@ use Rattle.words.proofs.Alphabet.{byte_laws}
 use Rattle.words.proofs.Stack.{read_freely_reduced, read_more}
 use Rattle.words.proofs.word.Word.reduce.Goals as goal
 
-pub push_letter-size-requires-clause-freely : goal.push_letter-size-requires-clause-freely
-push_letter-size-requires-clause-freely g c = search (read_freely_reduced bytes byte_laws, rules)
+pub push_last-size-requires-clause-freely : goal.push_last-size-requires-clause-freely
+push_last-size-requires-clause-freely g c = search (read_freely_reduced bytes byte_laws, rules)
 
 pub loop-letter-preserved : goal.loop-letter-preserved
 loop-letter-preserved g c = (search rules, search rules, search (read_more bytes byte_laws, rules))

@@ -1,9 +1,9 @@
--- `words::word::append_inverse` meets its contract.
+-- `words::product::append_inverse` meets its contract.
 use borrow.Author.Rules.{rules}
 use mathlib.Core.Path.{◌∙◌, ap}
 use Rattle.std.specs.Slice.Iter.{iter_rest}
 use Rattle.words.proofs.Joining.{inverse_begin, inverse_counted, inverse-counted_on, inverse-more, inverse-rest_begins, inverse_whole}
-use Rattle.words.proofs.word.append_inverse.Goals as goal
+use Rattle.words.proofs.product.append_inverse.Goals as goal
 
 -- the iterator gives the whole word, from its end
 pub loop-i-init : goal.loop-i-init

@@ -2,7 +2,7 @@ use Rattle.std.proofs.Common.{◌+◌, ◌≤◌, ◌++◌, ◌≡◌, drop, len
 use Rattle.std.specs.Slice.Iter.{iter_rest}
 use Rattle.words.specs.Alphabet.{bytes}
 use Rattle.words.specs.Words.{inverse}
-use Rattle.words.proofs.word.append_inverse.Given as goal
+use Rattle.words.proofs.product.append_inverse.Given as goal
 
 abbrev pub invariant-loop-i : goal.invariant-loop-i
 invariant-loop-i l =
