@@ -166,10 +166,26 @@ module _ (test : Factor → Bool) (k : ℕ) where
       first_found (either_of bytes test) k n _ inside before.0 (rw (before.1, e))
   sought_found (suc (suc m)) n l inside none e = absurd (omega arith)
 
--- of the factors passed none is a big end, and the first half start is kept
-pub record Sought (S : List (List ℕ)) (w : List ℕ) (k m : ℕ) (half : Option Factor) : Type 0 where
-  pub no_big : sought (big_end bytes S w) k m ≡ None
-  pub first_half : half ≡ sought (half_start bytes S w) k m
+-- the loops over the slots and the two factors of each: of those passed none passes the test
+module _ (test : Factor → Bool) (k m : ℕ) (none_yet : sought test k m ≡ None) where
+  pub sought_turn : m ≤ 2 → 2 ≤ m → sought test (k + 1) 0 ≡ None
+  sought_turn l r =
+      let both : m ≡ 2 = omega arith in
+      rw add-one (sym (sought_both test k) ∙ (rw both at none_yet))
+
+  pub sought_end : (n : ℕ) → m ≡ 0 → k ≤ n → n ≤ k → None ≡ first (either_of bytes test) n
+  sought_end n z l r =
+      let whole : k ≡ n = omega arith in
+      sym (rw (z, whole) at none_yet)
+
+  module _ (b passes : Bool) (sign : b ≡ eqb m 1) (told : passes ≡ test (record { slot = k; inverted = b })) where
+    pub sought_taken : passes ≡ true → (n : ℕ) → k < n → m < 2 → Some (record { slot = k; inverted = b }) ≡ first (either_of bytes test) n
+    sought_taken e n inside l =
+        let found = sought_found test k m n l inside none_yet (rw (← sign) (sym told ∙ e)) in
+        rw (found, sign)
+
+    pub sought_missed : passes ≡ false → sought test k (m + 1) ≡ None
+    sought_missed e = rw (add-one, sought, none_yet, ← sign, ← told, e)
 
 -- the signs of a slot's two factors, in their order
 pub sign : (m : ℕ) → m < 2 → slice_index_or (false ∷ true ∷ []) m false ≡ eqb m 1
@@ -182,61 +198,12 @@ pub begun_told : (S : List (List ℕ)) (k : ℕ) (b : Bool) (whole w : List ℕ)
     → begun ≡ common_prefix bytes (signed bytes b whole) w → begun ≡ common_prefix bytes (value bytes S (record { slot = k; inverted = b })) w
 begun_told S k b whole w begun mine e = rw (← mine) e
 
--- what the search has found after one more factor
-next_kept : (found : Option Factor) (p : Bool) (x : Factor) → is_some found ≡ true → found ≡ or_next found p x
-next_kept None p x e = absurd (true≢false (sym e))
-next_kept (Some y) p x e = refl
-
-next_missed : (found : Option Factor) (x : Factor) → found ≡ or_next found false x
-next_missed None x = refl
-next_missed (Some y) x = refl
-
-next_taken : (found : Option Factor) (x : Factor) → is_some found ≡ false → Some x ≡ or_next found true x
-next_taken None x e = refl
-next_taken (Some y) x e = absurd (true≢false e)
-
-module _ (S : List (List ℕ)) (w : List ℕ) (k m : ℕ) (half : Option Factor) (here : Sought S w k m half) where
-  pub sought_turn : m ≤ 2 → 2 ≤ m → Sought S w (k + 1) 0 half
-  sought_turn l r =
-      let both : m ≡ 2 = omega arith in
-      record {
-        no_big = rw add-one (sym (sought_both (big_end bytes S w) k) ∙ (rw both at here.no_big));
-        first_half = rw add-one ((rw both at here.first_half) ∙ sought_both (half_start bytes S w) k);
-      }
-
-  pub sought_end : m ≡ 0 → k ≤ length S → length S ≤ k → half ≡ leading bytes S w
+-- the leading factor: a big end, or else a half start
+module _ (S : List (List ℕ)) (w : List ℕ) (big : Option Factor) (told : big ≡ first (either_of bytes (big_end bytes S w)) (length S)) where
+  pub leading_big : {x : Factor} → big ≡ Some x → big ≡ leading bytes S w
   unfolding leading
-  sought_end z l r =
-      let whole : k ≡ length S = omega arith in
-      rw (leading, rw (z, whole) at here.no_big) (rw (z, whole) at here.first_half)
+  leading_big e = rw (leading, ← told, e)
 
-  module _ (b is_big : Bool) (sign : b ≡ eqb m 1) (told : is_big ≡ big_end bytes S w (record { slot = k; inverted = b })) where
-    pub sought_big : is_big ≡ true → k < length S → m < 2 → Some (record { slot = k; inverted = b }) ≡ leading bytes S w
-    unfolding leading
-    sought_big e inside l =
-        let found = sought_found (big_end bytes S w) k m (length S) l inside here.no_big (rw (← sign) (sym told ∙ e)) in
-        rw (leading, found, sign)
-
-    module _ (missed : is_big ≡ false) where
-      sought_next : (found : Option Factor)
-          → found ≡ or_next half (half_start bytes S w (record { slot = k; inverted = b })) (record { slot = k; inverted = b })
-          → Sought S w k (m + 1) found
-      sought_next found e =
-          record {
-            no_big = rw (add-one, sought, here.no_big, ← sign, ← told, missed);
-            first_half = rw (add-one, ← here.first_half, ← sign) e;
-          }
-
-      -- a half start was found before
-      pub sought_kept : (none : Bool) → is_some half ≡ not none → none ≡ false → (found : Option Factor) → found ≡ half → Sought S w k (m + 1) found
-      sought_kept none told₂ e found same = sought_next found (same ∙ next_kept half _ _ (told₂ ∙ ap not e))
-
-      module _ (is_half : Bool) (told₂ : is_half ≡ half_start bytes S w (record { slot = k; inverted = b })) where
-        -- this factor is none
-        pub sought_missed : is_half ≡ false → (found : Option Factor) → found ≡ half → Sought S w k (m + 1) found
-        sought_missed e found same = sought_next found (rw (← told₂, e) (same ∙ next_missed half (record { slot = k; inverted = b })))
-
-        -- this factor is the first
-        pub sought_taken : (none : Bool) → is_some half ≡ not none → none ≡ true → is_half ≡ true → (found : Option Factor)
-            → found ≡ Some (record { slot = k; inverted = b }) → Sought S w k (m + 1) found
-        sought_taken none told₃ n e found same = sought_next found (rw (← told₂, e) (same ∙ next_taken half _ (told₃ ∙ ap not n)))
+  pub leading-half : (half : Option Factor) → big ≡ None → half ≡ first (either_of bytes (half_start bytes S w)) (length S) → half ≡ leading bytes S w
+  unfolding leading
+  leading-half half e d = rw (leading, ← told, e) d

@@ -4,21 +4,35 @@
 ghost use Rattle.std.specs.Prelude.{List, ℕ, ◌%◌, ◌<◌, ◌≡◌, ◌≤◌, length};
 ghost use Rattle.words.specs.Alphabet.{bytes};
 ghost use Rattle.words.specs.Words.{common_prefix};
-ghost use Rattle.systems.specs.Factoring.{big_end, half_start, leading};
+ghost use Rattle.systems.specs.Factoring.{big_end, either_of, half_start, leading};
 ghost use Rattle.systems.specs.Products.{value, word};
+ghost use Rattle.systems.specs.Rules.{first};
 ghost use Rattle.leading.specs.Leads.{LeadBelow, ends_apart, ends_elsewhere};
 
 use slots::system::System;
 use systems::Factor;
 use words::cancel::common_prefix_signed;
 
-// The factor with which a word begins: the first big end, or else the first half start.
+// The factor with which a word begins: the first big end, or else the first half start. All big ends are tried before any half start, since
+// that takes a search through the other factors.
 pub fn leading_factor(word: &[u8], system: &System) -> Option<Factor>
     ensures found { result ≡ leading bytes system.now word.now }
     ensures below { LeadBelow (length system.now) result }
     ensures few { LeadBelow 16 result }
 {
-    let mut half = None;
+    let big = find_big_end(word, system);
+    let None = big else {
+        return big;
+    };
+    find_half_start(word, system)
+}
+
+// The first factor of which more than half begins the word.
+fn find_big_end(word: &[u8], system: &System) -> Option<Factor>
+    ensures found { result ≡ first (either_of bytes (big_end bytes system.now word.now)) (length system.now) }
+    ensures below { LeadBelow (length system.now) result }
+    ensures few { LeadBelow 16 result }
+{
     for k in 0..system.len() {
         for inverted in [false, true] {
             let x = Factor { slot: k, inverted };
@@ -26,12 +40,27 @@ pub fn leading_factor(word: &[u8], system: &System) -> Option<Factor>
             if is_big_end(x, begun, system) {
                 return Some(x);
             }
-            if half.is_none() && is_half_start(x, begun, system) {
-                half = Some(x);
+        }
+    }
+    None
+}
+
+// The first factor whose first half begins the word, and with whose second half another factor ends.
+fn find_half_start(word: &[u8], system: &System) -> Option<Factor>
+    ensures found { result ≡ first (either_of bytes (half_start bytes system.now word.now)) (length system.now) }
+    ensures below { LeadBelow (length system.now) result }
+    ensures few { LeadBelow 16 result }
+{
+    for k in 0..system.len() {
+        for inverted in [false, true] {
+            let x = Factor { slot: k, inverted };
+            let begun = common_prefix_signed(inverted, system.word(k), false, word);
+            if is_half_start(x, begun, system) {
+                return Some(x);
             }
         }
     }
-    half
+    None
 }
 
 // Whether more than half of a factor begins the word with which it has so many letters in common.
