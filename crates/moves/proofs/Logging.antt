@@ -1,6 +1,6 @@
 -- A log record by record: each is tested and read as at its own place in the log. And what a log that passes its tests tells of them.
-use Prim.Native.Nat.{◌%◌, ◌*◌, ◌+◌, ◌-◌, ◌/◌, ◌<◌, suc, zero, ℕ}
-use mathlib.Core.Bool.{Bool, false, true}
+use Prim.Native.Nat.{◌%◌, ◌*◌, ◌+◌, ◌-◌, ◌/◌, ◌<◌, ◌≤◌, suc, zero, ℕ}
+use mathlib.Core.Bool.{Bool, ◌&&◌, false, true}
 use mathlib.Core.List.{List}
 use mathlib.Core.Path.{◌∙◌, ◌≡◌, ap, ap₂, refl}
 use native.Mathlib.Nat.{add-zero}
@@ -8,7 +8,7 @@ use native.Mathlib.Omega.{arith}
 use lib.Dec.{eqb, leb, ltb}
 use lib.ListN.{drop, get_or, length, take}
 use lib.Seq.{drop-drop, get_or-drop, get_or-take}
-use borrow.Author.Tests.{eq-eqb, ltb-true}
+use borrow.Author.Tests.{eq-eqb, leb-true, ltb-true}
 use Rattle.std.specs.Prelude.{None, Ok, Option, Some, cond, is_some}
 use Rattle.std.specs.Simd.{first_chunks}
 use Rattle.moves.specs.declared.log.Logged.{Logged}
@@ -83,13 +83,26 @@ passed_move n log fine j h =
     let each : each_below (move_rule n log) (length log / move_size) ≡ (Ok tt) = fine_next (must (eqb (length log % move_size) 0) LogUneven 0) _ fine in
     must_fine _ LogRecordMalformed (j * move_size) (each_passed (move_rule n log) (length log / move_size) j each h)
 
--- and a move changes one of the slots
-pub move_inside : (n : ℕ) (log : List ℕ) (j : ℕ) → is_move n log j ≡ true → (move_at log j).changed < n
-move_inside n log j valid =
-    let letter : ℕ = get_or log (j * move_size) 0 in
-    let first : names_slot n letter ≡ true =
-    (and_parts _ _ (and_parts _ _ (and_parts _ _ (and_parts _ _ (and_parts _ _ (and_parts _ _ (and_parts _ _ valid).0).0).0).0).0).0).0 in
-    ltb-true (letter - 97) n (and_parts (leb 97 letter) (ltb (letter - 97) n) first).1
+-- and a move changes one of the slots, and is named by letters and a digit
+module _ (n : ℕ) (log : List ℕ) (j : ℕ) (valid : is_move n log j ≡ true) where
+  slots_named : names_slot n (get_or log (j * move_size) 0)
+      && (leb 49 (get_or log (j * move_size + 1) 0) && leb (get_or log (j * move_size + 1) 0) 52) && names_slot n (get_or log (j * move_size + 2) 0) ≡ true
+  slots_named = (and_parts _ _ (and_parts _ _ (and_parts _ _ (and_parts _ _ (and_parts _ _ valid).0).0).0).0).0
+
+  changed_slot : names_slot n (get_or log (j * move_size) 0) ≡ true
+  changed_slot = (and_parts _ _ (and_parts _ _ slots_named).0).0
+
+  pub move_inside : (move_at log j).changed < n
+  move_inside = ltb-true (get_or log (j * move_size) 0 - 97) n (and_parts (leb 97 (get_or log (j * move_size) 0)) _ changed_slot).1
+
+  pub changed-named : 97 ≤ get_or log (j * move_size) 0
+  changed-named = leb-true 97 (get_or log (j * move_size) 0) (and_parts (leb 97 (get_or log (j * move_size) 0)) _ changed_slot).0
+
+  pub digit_named : 49 ≤ get_or log (j * move_size + 1) 0
+  digit_named = leb-true 49 (get_or log (j * move_size + 1) 0) (and_parts _ _ (and_parts _ _ (and_parts _ _ slots_named).0).1).0
+
+  pub other-named : 97 ≤ get_or log (j * move_size + 2) 0
+  other-named = leb-true 97 (get_or log (j * move_size + 2) 0) (and_parts _ _ (and_parts _ _ slots_named).1).0
 
 -- and is read in its place
 pub passed_read : (n : ℕ) (log : List ℕ) (j : ℕ) (parts : List (List ℕ)) (d : List ℕ) → log_rules n log ≡ Ok tt

@@ -1,9 +1,9 @@
 // Log records: one reader, one writer, one size.
-ghost use Rattle.std.specs.Prelude.{◌&&◌, ◌*◌, ◌+◌, ◌-◌, ◌<◌, ◌≤◌, ◌++◌, ◌≡◌, IfSome, None, Some, cond, drop, leb, length, take};
+ghost use Rattle.std.specs.Prelude.{◌&&◌, ◌*◌, ◌+◌, ◌-◌, ◌<◌, ◌≤◌, ◌++◌, ◌≡◌, IfSome, None, Some, cond, drop, leb, length, take, true};
 ghost use Rattle.std.specs.Char.{is_ascii_digit};
 ghost use Rattle.systems.specs.Rules.{form_at};
 ghost use Rattle.moves.specs.Found.{Between};
-ghost use Rattle.moves.specs.Logs.{is_rule, log_record, log_rules, move_size, named_rule, names_slot, number_in, read_move};
+ghost use Rattle.moves.specs.Logs.{is_move, is_rule, log_record, log_rules, logged_at, move_size, named_rule, names_slot, number_in, read_move};
 
 use records::answers::{Refusal, check_that};
 use records::refusals::Reason;
@@ -62,8 +62,30 @@ fn two_digits(tens: u8, ones: u8) -> Option<usize>
     }
 }
 
-// Reads a log record, if it is that of a move over n slots.
-pub fn read_move(n: usize, bytes: &[u8; MOVE]) -> Option<Logged>
+// Reads a log record that is that of a move over n slots.
+pub fn read_move(n: usize, bytes: &[u8; MOVE]) -> Logged
+    requires valid { is_move n bytes.now 0 ≡ true }
+    ensures read { result ≡ logged_at bytes.now 0 }
+    ensures between { Between n result.made }
+{
+    let [changed, digit, other, _, letter, tens, ones, _] = *bytes;
+    Logged {
+        made: Move {
+            changed: (changed - b'a') as usize,
+            form: Form::at((digit - b'1') as usize),
+            other: (other - b'a') as usize,
+        },
+        rule: if letter == b's' {
+            Rule::Shortening
+        } else {
+            Rule::HalfEnd
+        },
+        new_length: (tens - b'0') as usize * 10 + (ones - b'0') as usize,
+    }
+}
+
+// What is in a log record, if it is that of a move over n slots.
+pub fn logged_in(n: usize, bytes: &[u8; MOVE]) -> Option<Logged>
     ensures read { result ≡ read_move n bytes.now }
     ensures between { IfSome result (λ logged. Between n logged.made) }
 {
@@ -94,7 +116,7 @@ pub fn check_log(n: usize, log: &[u8]) -> Result<(), Refusal>
         return even;
     };
     for (j, log_record) in log_records.iter().enumerate() {
-        let is_move = read_move(n, log_record).is_some();
+        let is_move = logged_in(n, log_record).is_some();
         let checked = check_that(is_move, Reason::LogRecordMalformed, j * MOVE);
         let Ok(()) = checked else {
             return checked;

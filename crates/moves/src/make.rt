@@ -1,5 +1,5 @@
 // One move on the words of a system.
-ghost use Rattle.std.specs.Prelude.{false, true, ◌<◌, ◌≤◌, ◌++◌, ◌≡◌, leb, length};
+ghost use Rattle.std.specs.Prelude.{[], false, true, ◌<◌, ◌≤◌, ◌++◌, ◌≡◌, leb, length};
 ghost use Rattle.words.specs.Alphabet.{bytes};
 ghost use Rattle.words.specs.Words.{freely_reduce};
 ghost use Rattle.systems.specs.Moves.{made, moved_word};
@@ -16,7 +16,8 @@ pub fn make_move(system: &mut System, m: Move) -> bool
     ensures made { result ≡ true → system.new ≡ made bytes system.old m }
     ensures left { result ≡ false → system.new ≡ system.old }
 {
-    let product = moved_word(system, m);
+    let mut product = Word::new();
+    moved_word(system, m, &mut product);
     if product.len() > 63 {
         return false;
     }
@@ -24,10 +25,12 @@ pub fn make_move(system: &mut System, m: Move) -> bool
     true
 }
 
-// The word that a move puts into its slot.
-fn moved_word(system: &System, m: Move) -> Word<128>
+// Puts the word that a move puts into its slot in place of an empty word. That is lent: returned, it was copied twice, and replay of short words
+// took half as long again.
+fn moved_word(system: &System, m: Move, product: &mut Word<128>)
     requires inside { (m.changed < length system.now) × (m.other < length system.now) }
-    ensures { result ≡ moved_word bytes system.now m }
+    requires empty { product.old ≡ [] }
+    ensures { product.new ≡ moved_word bytes system.now m }
 {
     let changed = Factor {
         slot: m.changed,
@@ -42,20 +45,19 @@ fn moved_word(system: &System, m: Move) -> Word<128>
         inverted: true,
     };
     match m.form {
-        Form::Before => multiply_two(system, other, changed),
-        Form::InverseBefore => multiply_two(system, inverse, changed),
-        Form::After => multiply_two(system, changed, other),
-        Form::InverseAfter => multiply_two(system, changed, inverse),
+        Form::Before => multiply_two(system, other, changed, product),
+        Form::InverseBefore => multiply_two(system, inverse, changed, product),
+        Form::After => multiply_two(system, changed, other, product),
+        Form::InverseAfter => multiply_two(system, changed, inverse, product),
     }
 }
 
-// The freely reduced product of two factors.
-fn multiply_two(system: &System, first: Factor, second: Factor) -> Word<128>
+// Puts the freely reduced product of two factors in place of an empty word.
+fn multiply_two(system: &System, first: Factor, second: Factor, product: &mut Word<128>)
     requires inside { (first.slot < length system.now) × (second.slot < length system.now) }
-    ensures { result ≡ freely_reduce bytes (value bytes system.now first ++ value bytes system.now second) }
+    requires empty { product.old ≡ [] }
+    ensures { product.new ≡ freely_reduce bytes (value bytes system.now first ++ value bytes system.now second) }
 {
-    let mut product = Word::new();
-    system.multiply(&mut product, first);
-    system.multiply(&mut product, second);
-    product
+    system.multiply(product, first);
+    system.multiply(product, second);
 }

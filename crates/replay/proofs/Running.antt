@@ -2,7 +2,7 @@
 use Prim.Native.Nat.{◌+◌, ◌-◌, ◌/◌, ◌<◌, ◌≤◌, ℕ}
 use mathlib.Core.Bool.{Bool, false, true}
 use mathlib.Core.List.{List, [], ◌++◌, ◌∷◌}
-use mathlib.Core.Path.{◌∙◌, ◌≡◌, ap, ap₂, sym}
+use mathlib.Core.Path.{◌∙◌, ◌≡◌, ap, ap₂, refl, sym}
 use native.Mathlib.Numerals.{add-one}
 use native.Mathlib.Omega.{arith}
 use lib.ListN.{drop, get_or, length, take}
@@ -11,14 +11,14 @@ use Rattle.words.specs.Alphabet.{bytes}
 use Rattle.words.proofs.Below.{below_at, below-drop, below_length}
 use Rattle.systems.specs.Moves.{made, made_all, undone_all}
 use Rattle.systems.specs.declared.Move.{Move}
+use Rattle.std.proofs.lemmas.Option.{none-some}
 use Rattle.systems.proofs.Undoing.{made_all-length, made_all-snoc, undone_all-length}
 use Rattle.records.specs.Refusals.{each_below}
 use Rattle.records.specs.declared.answers.Refusal.{Refusal}
 use Rattle.records.proofs.Chains.{each_fail, each_pass}
-use Rattle.std.specs.Option.{IsSome}
-use Rattle.std.specs.Prelude.{None, Option, Some, is_some}
+use Rattle.std.specs.Prelude.{None, Option, Some, cond}
 use Rattle.std.specs.Simd.{first_chunks}
-use Rattle.moves.specs.Logs.{log_rules, logged_at, move_at, move_size, moves_in, read_move}
+use Rattle.moves.specs.Logs.{is_move, log_rules, logged_at, move_at, move_size, moves_in, read_move}
 use Rattle.moves.specs.declared.log.Logged.{Logged}
 use Rattle.moves.proofs.Logging.{passed_read}
 use Rattle.replay.specs.Replay.{directed, move_rules, place_at, ran_before, replayed, run_rules, turn_rule}
@@ -29,6 +29,11 @@ use Rattle.records.specs.Refusals.{Checked}
 pub place_inside : (backward : Bool) (count d : ℕ) → d < count → place_at backward count d < count
 place_inside true count d h = omega arith
 place_inside false count d h = h
+
+-- what a test lets through
+kept : (b : Bool) (l k : Logged) → cond b (Some l) None ≡ Some k → (b ≡ true) × (l ≡ k)
+kept true l k e = (refl, ap (λ (o : Option Logged). elim o [ None ↦ l | Some m ↦ m ]) e)
+kept false l k e = absurd (none-some k e)
 
 -- the systems of a run
 module _ (log : List ℕ) (S : List (List ℕ)) where
@@ -64,18 +69,18 @@ module _ (log : List ℕ) (S : List (List ℕ)) where
   module _ (backward : Bool) (d : ℕ) (T : List (List ℕ)) (here : T ≡ replayed backward S (ran_before backward (moves_in log) d))
       (count : ℕ) (counted : count ≡ length log / move_size) where
     -- the move of a turn stands in its place of a log that passed its tests
-    module _ (n at : ℕ) (parts : List (List ℕ)) (e : List ℕ) {r : Option Logged} (fine : log_rules (length S) log ≡ Ok tt) (slots : n ≡ length T)
-        (cut : parts ≡ first_chunks move_size (length log / move_size) log) (placed : at < count) (read : r ≡ read_move n (get_or parts at e)) where
-      turn_reads : r ≡ Some (logged_at log at)
+    module _ (n at : ℕ) (parts : List (List ℕ)) (e : List ℕ) (fine : log_rules (length S) log ≡ Ok tt) (slots : n ≡ length T)
+        (cut : parts ≡ first_chunks move_size (length log / move_size) log) (placed : at < count) where
+      turn_reads : read_move n (get_or parts at e) ≡ Some (logged_at log at)
       turn_reads =
           let same : n ≡ length S = slots ∙ ap length here ∙ turn_length backward (ran_before backward (moves_in log) d) in
-          read ∙ passed_read n log at parts e (rw same fine) cut (omega (arith, placed, counted))
+          passed_read n log at parts e (rw same fine) cut (omega (arith, placed, counted))
 
-      pub turn_found : IsSome r
-      turn_found = ap is_some turn_reads
+      pub turn_valid : is_move n (get_or parts at e) 0 ≡ true
+      turn_valid = (kept _ _ _ turn_reads).0
 
-      pub turn_move : (l : Logged) → r ≡ Some l → l ≡ logged_at log at
-      turn_move l told = ap (λ (o : Option Logged). elim o [ None ↦ l | Some k ↦ k ]) (sym told ∙ turn_reads)
+      pub turn_move : (l : Logged) → l ≡ logged_at (get_or parts at e) 0 → l ≡ logged_at log at
+      turn_move l told = told ∙ (kept _ _ _ turn_reads).1
 
     -- it is run
     module _ (at : ℕ) (l : Logged) (place : at ≡ place_at backward count d) (read : l ≡ logged_at log at) (inside : d < count) where

@@ -61,7 +61,7 @@ fn run(log: &[u8], backward: bool, system: &mut System) -> Result<(), Refusal>
     let (log_records, _) = log.as_chunks::<MOVE>();
     for done in 0..log_records.len() {
         let at = place_at(backward, log_records.len(), done);
-        let logged = read_move(system.len(), &log_records[at]).unwrap();
+        let logged = read_move(system.len(), &log_records[at]);
         let moved = run_move(system, backward, logged, at + 1);
         let Ok(()) = moved else {
             return moved;

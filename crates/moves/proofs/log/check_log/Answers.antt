@@ -14,13 +14,13 @@ pub returns-in_default-checked : goal.returns-in_default-checked
 unfolding log_rules
 returns-in_default-checked c =
     let told = tested_at c.args.log.now c.loop-j.j c.args.n _ _ c.as_chunks.ensures.front (omega (arith, c.loop-j-test.true, c.as_chunks.ensures.front_len))
-    c.read_move.ensures.read c.is_some-is_move.ensures c.check_that-checked.ensures in
+    c.logged_in.ensures.read c.is_some-is_move.ensures c.check_that-checked.ensures in
     search (then_fine, each_fail, rules)
 
 pub loop-j-preserved : goal.loop-j-preserved
 loop-j-preserved c =
     let told = tested_at c.args.log.now c.loop-j.j c.args.n _ _ c.as_chunks.ensures.front (omega (arith, c.loop-j-test.true, c.as_chunks.ensures.front_len))
-    c.read_move.ensures.read c.is_some-is_move.ensures c.check_that-checked.ensures in
+    c.logged_in.ensures.read c.is_some-is_move.ensures c.check_that-checked.ensures in
     search (each_pass, rules)
 
 pub returns : goal.returns

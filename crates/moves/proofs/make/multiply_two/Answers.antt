@@ -12,5 +12,5 @@ pub returns : goal.returns
 returns c =
     let u = value bytes c.args.system.now c.args.first in
     let v = value bytes c.args.system.now c.args.second in
-    let first = c.multiply.ensures.product ∙ ap (λ w. freely_reduce bytes (w ++ u)) c.new-product.ensures in
+    let first = c.multiply.ensures.product ∙ ap (λ w. freely_reduce bytes (w ++ u)) c.requires.empty in
     c.multiply-2.ensures.product ∙ ap (λ w. freely_reduce bytes (w ++ v)) first ∙ sym (freely_reduce_left bytes byte_laws u v)
