@@ -37,6 +37,10 @@ must_fine false n at e = let z : ◌≡◌ {A = ℕ} 0 1 = cc in absurd (omega a
 pub must_passed : (b : Bool) (n : Reason) (at : ℕ) {x : Checked} → x ≡ must b n at → x ≡ Ok tt → b ≡ true
 must_passed b n at e h = must_fine b n at (sym e ∙ h)
 
+pub must-refused : (b : Bool) (n : Reason) (at : ℕ) {x : Checked} {f : Refusal} → x ≡ must b n at → x ≡ Err f → (b ≡ false) × (x ≡ refusal n at)
+must-refused false n at e h = (refl, e)
+must-refused true n at e h = let z : ◌≡◌ {A = ℕ} 0 1 = cc in absurd (omega arith)
+
 pub must_fail : (b : Bool) (n : Reason) (at : ℕ) {x : Checked} → b ≡ false → x ≡ refusal n at → x ≡ must b n at
 must_fail b n at e h = rw e h
 

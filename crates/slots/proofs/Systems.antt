@@ -18,7 +18,7 @@ use Rattle.systems.specs.Products.{FreelyReduced}
 use Rattle.systems.proofs.Equivalence.{words-freely_reduced}
 use Rattle.records.specs.Records.{blanks, record_of}
 use Rattle.records.specs.Refusals.{◌and_then◌, each_below, must, record_rules, Checked}
-use Rattle.records.proofs.Chains.{fine_first, fine_next, must_fine}
+use Rattle.records.proofs.Chains.{fine_first, fine_next, must_fine, must_passed}
 use Rattle.records.proofs.ByNumber.{NumberedTo, each_numbered, must_numbered, record_numbered, then_numbered}
 use Rattle.slots.specs.Refusals.{slot_rules, system_room, system_rules, word_room}
 use Rattle.slots.specs.Systems.{AllShort, bytes_of, freely_reduced_words, record_at, slots, system_of}
@@ -33,6 +33,10 @@ slot_part k s =
 -- the records of a system are its parts of 64 bytes
 pub next_told : (s : List ℕ) (n k : ℕ) (d : List ℕ) {r : Checked} → k < n → r ≡ record_rules (get_or (first_chunks 64 n s) k d) (k * 64) → r ≡ slot_rules s k
 next_told s n k d h told = told ∙ ap (λ (b : List ℕ). record_rules b (k * 64)) (chunk_at 64 n k s d h)
+
+-- a system that passes refusal 2 has at most 16 records
+pub few_records : {x : Checked} (s : List ℕ) → x ≡ must (leb (length s) 1024) SystemTooLong 0 → x ≡ Ok tt → length s / 64 ≤ 16
+few_records s e h = omega (arith, leb-true (length s) 1024 (must_passed _ SystemTooLong 0 e h))
 
 -- refusals 1 to 5 are passed where each record passes its own
 pub system_records : (s : List ℕ) → length s % 64 ≡ 0 → length s / 64 ≤ 16 → each_below (slot_rules s) (length s / 64) ≡ Ok tt → system_rules s ≡ Ok tt

@@ -18,7 +18,7 @@ use Rattle.systems.specs.Moves.{made, made_all, undone_all}
 use Rattle.systems.specs.declared.Move.{Move}
 use Rattle.systems.specs.Reduced.{Reduced}
 use Rattle.systems.specs.Rules.{next, moves_within, run_within}
-use Rattle.systems.specs.Rank.{none_blank}
+use Rattle.systems.specs.Rank.{none_blank, rank}
 use Rattle.systems.proofs.Undoing.{AllApart, made_all-undone, made_all-undone_to}
 use Rattle.systems.proofs.Equivalence.{reduced-word, words-freely_reduced, reduced-multiplied, run-equivalent}
 use Rattle.systems.proofs.ProductLaws.{named-over, over-named}
@@ -109,3 +109,18 @@ module _ {A : Type 0} (G : Alphabet A) (S current : List (List A)) (used : ℕ) 
   module _ (ended : next G current ≡ None) (room : ℕ) (enough : used ≤ room) where
     pub ended_moves : (logged : List Move) → logged ≡ moves_within G used S → moves_within G room S ≡ logged
     ended_moves logged log = moves_ended G used room S (rw here at ended) enough ∙ sym log
+
+-- the rank of two systems one after the other
+module _ {A : Type 0} where
+  pub rank-append : (S T : List (List A)) → rank (S ++ T) ≡ rank S + rank T
+  rank-append [] T = omega arith
+  rank-append ([] ∷ S) T = rank-append S T
+  rank-append ((a ∷ w) ∷ S) T = omega (arith, rank-append S T)
+
+  -- one word more at the end, blank or not
+  pub rank_blank : (S : List (List A)) (w : List A) → w ≡ [] → rank (S ++ (w ∷ [])) ≡ rank S
+  rank_blank S w e = rw e (omega (arith, rank-append S ([] ∷ [])))
+
+  pub rank-word : (S : List (List A)) (w : List A) → (w ≡ [] → ⊥) → rank (S ++ (w ∷ [])) ≡ rank S + 1
+  rank-word S [] n = absurd (n refl)
+  rank-word S (a ∷ w) n = rank-append S ((a ∷ w) ∷ [])
