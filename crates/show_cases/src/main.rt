@@ -4,7 +4,7 @@
 use records::record::{RECORD, STOP};
 use show::show;
 use std::io;
-use std::iter::{once, repeat};
+use std::iter::repeat;
 
 // The bytes of 18 records, more than any system here has.
 const ROOM: usize = 1152;
@@ -105,8 +105,11 @@ fn fill_records(texts: &str, records: &mut [u8]) {
 
 // Fills one record with its text, full stops and a line feed.
 fn fill_record(text: &str, record: &mut [u8]) {
-    let letters = text.bytes().chain(repeat(STOP)).take(RECORD - 1);
-    for (place, byte) in record.iter_mut().zip(letters.chain(once(b'\n'))) {
+    record.fill(STOP);
+    for (place, byte) in record.iter_mut().zip(text.bytes()) {
         *place = byte;
+    }
+    if let Some(last) = record.last_mut() {
+        *last = b'\n';
     }
 }
