@@ -1,4 +1,4 @@
-// Log records: one reader, one writer, one size.
+// Log records: their test, one reader, one writer, one size.
 ghost use Rattle.std.specs.Prelude.{◌&&◌, ◌*◌, ◌+◌, ◌-◌, ◌<◌, ◌≤◌, ◌++◌, ◌≡◌, IfSome, None, Some, cond, drop, leb, length, take, true};
 ghost use Rattle.std.specs.Char.{is_ascii_digit};
 ghost use Rattle.systems.specs.Rules.{form_at};
