@@ -1,9 +1,9 @@
 -- The search for the factor with which a word begins: a big end, or else a half start. What of a factor begins the word, and what another
 -- factor ends with, is counted. One law for each turn and each way out.
 use Prim.Native.Nat.{◌%◌, ◌*◌, ◌+◌, ◌/◌, ◌<◌, ◌≤◌, ℕ, suc, zero}
-use mathlib.Core.Bool.{Bool, cond, not-not, ◌&&◌, ◌||◌, false, not, true, true≢false}
+use mathlib.Core.Bool.{Bool, cond, not-not, ◌&&◌, ◌||◌, false, not, true}
 use mathlib.Core.List.{List, [], ◌∷◌}
-use Rattle.std.specs.Prelude.{None, Option, Some, is_some}
+use Rattle.std.specs.Prelude.{None, Option, Some}
 use Rattle.std.proofs.Common.{slice_index_or}
 use mathlib.Core.Path.{◌∙◌, ◌≡◌, ap, ap₂, refl, sym}
 use native.Mathlib.Numerals.{add-one}

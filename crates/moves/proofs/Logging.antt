@@ -5,7 +5,7 @@ use mathlib.Core.List.{List}
 use mathlib.Core.Path.{◌∙◌, ◌≡◌, ap, ap₂, refl}
 use native.Mathlib.Nat.{add-zero}
 use native.Mathlib.Omega.{arith}
-use lib.Dec.{eqb, leb, ltb}
+use lib.Dec.{eqb, leb}
 use lib.ListN.{drop, get_or, length, take}
 use lib.Seq.{drop-drop, get_or-drop, get_or-take}
 use borrow.Author.Tests.{eq-eqb, leb-true, ltb-true}
